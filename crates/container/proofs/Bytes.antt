@@ -1,0 +1,110 @@
+-- Laws of a container's bytes: their number, and one fingerprint more.
+use Prim.Native.Nat.{ℕ, zero, suc, _+_, _-_, _*_, _≤_, _<_}
+use mathlib.Core.List.{List, [], _∷_, _++_, append-assoc, append-nil}
+use mathlib.Core.Path.{_≡_, refl, ap, sym, _∙_}
+use mathlib.Core.Bool.{Bool, true, false}
+use native.Mathlib.Omega.{arith}
+use native.Mathlib.Numerals.{add-one}
+use lib.ListN.{length, getD, take, drop, length-append}
+use lib.Seq.{length-take-le, take-suc}
+use Rattle.laws.specs.Sums.{sum}
+use Rattle.container.specs.declared.Video.{Video}
+use Rattle.container.specs.declared.Video.the-variants.{Absent, One, Two}
+use Rattle.container.specs.declared.Print.{Print}
+use Rattle.container.specs.declared.Contents.{Contents}
+use Rattle.container.specs.Contents.{blankPrint}
+use Rattle.container.specs.Bytes.{idBytes, videoBytes, printBytes, runBytes, audioBytes, partBytes, frontBytes, checkOf, encode}
+use Rattle.container.specs.Writing.{RunFits, Fits}
+
+pub print-length : (p : Print) → p .size ≤ length (p .bytes) → length (printBytes p) ≡ p .size + 2
+unfolding printBytes
+print-length p h = let e = length-take-le (p .size) (p .bytes) h in omega arith
+
+take-at-most : (n : ℕ) (l : List ℕ) → length (take n l) ≤ n
+take-at-most zero l = omega arith
+take-at-most (suc n) [] = omega arith
+take-at-most (suc n) (x ∷ l) = let h = take-at-most n l in omega arith
+
+pub print-at-most : (p : Print) → length (printBytes p) ≤ p .size + 2
+unfolding printBytes
+print-at-most p = omega (arith, take-at-most (p .size) (p .bytes))
+
+run-append : (xs ys : List Print) → runBytes (xs ++ ys) ≡ runBytes xs ++ runBytes ys
+unfolding runBytes
+run-append [] ys = refl
+run-append (p ∷ xs) ys = rw (run-append xs ys, append-assoc)
+
+-- one fingerprint more
+pub run-snoc : (ps : List Print) (k : ℕ) (d : Print) → k < length ps → runBytes (take (k + 1) ps) ≡ runBytes (take k ps) ++ printBytes (getD ps k d)
+unfolding runBytes
+run-snoc ps k d h = rw (add-one, take-suc ps k d, run-append, append-nil)
+
+pub run-longer : (ps : List Print) (k : ℕ) (d : Print) → k < length ps
+    → length (runBytes (take (k + 1) ps)) ≡ length (runBytes (take k ps)) + length (printBytes (getD ps k d))
+run-longer ps k d h = ap length (run-snoc ps k d h) ∙ length-append (runBytes (take k ps)) (printBytes (getD ps k d))
+
+pub audio-none : (n : ℕ) (ps : List Print) → n ≡ 0 → audioBytes n ps ≡ []
+unfolding audioBytes
+audio-none n ps e = rw e
+
+pub audio-some : (n : ℕ) (ps : List Print) → (n ≡ 0 → ⊥) → audioBytes n ps ≡ ((n - 1) * 8 + 2) ∷ runBytes (take n ps)
+unfolding audioBytes
+audio-some zero ps h = absurd (h refl)
+audio-some (suc n) ps h = let e : suc n - 1 ≡ n = omega arith in rw e
+
+-- ---- how many bytes a part has at most
+
+pub id-at-most : (present : Bool) (id : List ℕ) → length id ≡ 20 → length (idBytes present id) ≤ 21
+unfolding idBytes
+id-at-most true id l = omega arith
+id-at-most false id l = omega arith
+
+pub video-at-most : (v : Video) → length (videoBytes v) ≤ 3
+unfolding videoBytes
+video-at-most Absent = omega arith
+video-at-most (One a) = omega arith
+video-at-most (Two a b) = omega arith
+
+module _ (n : ℕ) (ps : List Print) (f : RunFits n ps) (l : n ≤ length ps) where
+  run-at-most : (k : ℕ) → k ≤ n → length (runBytes (take k ps)) ≤ 7 * k
+  unfolding runBytes
+  run-at-most zero h = omega arith
+  run-at-most (suc k) h =
+      let m = run-at-most k (omega arith) in
+      let e : length (runBytes (take (suc k) ps)) ≡ length (runBytes (take k ps)) + length (printBytes (getD ps k blankPrint)) =
+      rw (← add-one k) (run-longer ps k blankPrint (omega arith)) in
+      omega (arith, print-at-most (getD ps k blankPrint), f .each k (omega arith) .five)
+
+audio-at-most : (n : ℕ) (ps : List Print) → RunFits n ps → n ≤ length ps → length (audioBytes n ps) ≤ 225
+unfolding audioBytes
+audio-at-most zero ps f l = omega arith
+audio-at-most (suc n) ps f l = let many = f .many in omega (arith, run-at-most (suc n) ps f l (suc n) (omega arith))
+
+parts-length : (c : Contents)
+    → length (partBytes c) ≡ length (idBytes (c .hasid) (c .id)) + length (videoBytes (c .video)) + length (audioBytes (c .count) (c .prints))
+unfolding partBytes
+parts-length c = simp length-append
+
+-- the arrays have the lengths that their types give
+pub record Shaped (c : Contents) : Type 0 where
+  pub id : length (c .id) ≡ 20
+  pub prints : length (c .prints) ≡ 32
+
+-- 21 + 3 + 225
+pub parts-at-most : (c : Contents) → Shaped c → Fits c → length (partBytes c) ≤ 249
+parts-at-most c s f =
+    omega (
+      arith,
+      parts-length c,
+      id-at-most (c .hasid) (c .id) (s .id),
+      video-at-most (c .video),
+      audio-at-most (c .count) (c .prints) (f .run) (omega (arith, f .run .many, s .prints)),
+    )
+
+pub front-length : (c : Contents) → length (frontBytes c) ≡ length (partBytes c) + 4
+unfolding frontBytes
+front-length c = omega arith
+
+pub encode-length : (c : Contents) → length (encode c) ≡ length (partBytes c) + 5
+unfolding encode
+encode-length c = omega (arith, length-append (frontBytes c) (checkOf (sum (frontBytes c)) ∷ []), front-length c)

@@ -1,0 +1,6 @@
+pub mod Parts
+pub mod Runs
+pub mod Readable
+pub mod Bytes
+pub mod Outcome
+pub mod Unique

@@ -1,0 +1,180 @@
+-- Laws of reading: what a right fingerprint and a header with no fault say, how many bytes a part takes, and the outcome from the parts' outcomes.
+use Prim.Native.Nat.{ℕ, zero, suc, _+_, _-_, _/_, _%_, _≤_, _<_}
+use mathlib.Core.List.{List, [], _∷_, _++_}
+use mathlib.Core.Path.{_≡_, refl, ap, sym, _∙_}
+use mathlib.Core.Bool.{Bool, true, false, cond, _&&_, false≢true}
+use native.Mathlib.Omega.{arith}
+use lib.ListN.{length, getD, take, drop, length-drop}
+use lib.Seq.{take-all}
+use lib.Dec.{leb, ltb, eqb}
+use borrow.Author.Tests.{leb-true, ltb-true, eqb-true, eq-eqb, ne-eqb}
+use Rattle.laws.specs.Sums.{sum}
+use Rattle.laws.proofs.Tests.{tests, both, past, chosen, held}
+use Rattle.rates.specs.Rates.{rateListed, twoFields}
+use Rattle.rates.specs.Mixes.{mixListed}
+use Rattle.container.specs.declared.IdPart.{IdPart}
+use Rattle.container.specs.declared.VideoPart.{VideoPart}
+use Rattle.container.specs.declared.PrintPart.{PrintPart}
+use Rattle.container.specs.declared.AudioPart.{AudioPart}
+use Rattle.container.specs.Parts.{noPrint, idPart, oneField, bothFields, videoPart, printPart, printAt, runOf, audioOf, audioPart}
+use Rattle.container.specs.Reading.{headerNumber, refusal, accepted, joined, idIn, videoIn, audioIn, partsReading}
+
+pub tail-part : (s : List ℕ) (p : ℕ) → take (length s - p) (drop p s) ≡ drop p s
+tail-part s p = take-all (length s - p) (drop p s) (rw length-drop (omega arith))
+
+-- ---- the header
+
+pub record HeaderRight (s : List ℕ) : Type 0 where
+  pub five : 5 ≤ length s
+  pub version : getD s 0 0 ≡ 0
+  pub counted : length s ≡ getD s 2 0 + 3
+  pub check : sum s % 256 ≡ 0
+  pub rate : rateListed (getD s 3 0 / 16) ≡ true
+  pub bit-3 : getD s 3 0 % 16 < 8
+
+pub header-right : (s : List ℕ) → headerNumber s ≡ 0 → HeaderRight s
+unfolding headerNumber
+header-right s e =
+    let q₀ = past (leb 5 (length s)) 20 _ e (omega arith) in
+    let q₁ = past (eqb (getD s 0 0) 0) 21 _ (q₀ .1) (omega arith) in
+    let q₂ = past (eqb (length s) (getD s 2 0 + 3)) 22 _ (q₁ .1) (omega arith) in
+    let q₃ = past (eqb (sum s % 256) 0) 23 _ (q₂ .1) (omega arith) in
+    let q₄ = past (rateListed (getD s 3 0 / 16)) 24 _ (q₃ .1) (omega arith) in
+    let q₅ = past (ltb (getD s 3 0 % 16) 8) 24 _ (q₄ .1) (omega arith) in
+    record {
+      five = leb-true _ _ (q₀ .0);
+      version = eqb-true _ _ (q₁ .0);
+      counted = eqb-true _ _ (q₂ .0);
+      check = eqb-true _ _ (q₃ .0);
+      rate = q₄ .0;
+      bit-3 = ltb-true _ _ (q₅ .0);
+    }
+
+pub header-0 : (s : List ℕ) → HeaderRight s → headerNumber s ≡ 0
+unfolding headerNumber
+header-0 s r =
+    let five = r .five in
+    let version = r .version in
+    let counted = r .counted in
+    let check = r .check in
+    let bit-3 = r .bit-3 in
+    simp (tests, r .rate)
+
+-- ---- one fingerprint
+
+pub record PrintRight (b : List ℕ) : Type 0 where
+  pub two : 2 ≤ length b
+  pub mix : mixListed (getD b 0 0 % 8) ≡ true
+  pub low : getD b 1 0 % 8 ≡ 0
+  pub some : 1 ≤ getD b 1 0 / 8
+  pub five : getD b 1 0 / 8 ≤ 5
+  pub fits : getD b 1 0 / 8 + 2 ≤ length b
+
+pub print-is : (b : List ℕ) → PrintRight b → printPart b ≡ printAt b
+unfolding printPart
+print-is b r =
+    let two = r .two in
+    let low = r .low in
+    let some = r .some in
+    let five = r .five in
+    let fits = r .fits in
+    simp (tests, r .mix)
+
+print-held : (t : Bool) (x : PrintPart) → cond t x noPrint .ok ≡ true → (t ≡ true) × (x .ok ≡ true)
+print-held t x e = held (λ (p : PrintPart). p .ok ≡ true) t x noPrint e false≢true
+
+pub print-right : (b : List ℕ) → printPart b .ok ≡ true → PrintRight b
+unfolding printPart
+print-right b e =
+    let q₁ = print-held (leb 2 (length b)) _ e in
+    let q₂ = print-held (mixListed (getD b 0 0 % 8)) _ (q₁ .1) in
+    let q₃ = print-held (eqb (getD b 1 0 % 8) 0) _ (q₂ .1) in
+    let q₄ = print-held (leb 1 (getD b 1 0 / 8)) _ (q₃ .1) in
+    let q₅ = print-held (leb (getD b 1 0 / 8) 5) _ (q₄ .1) in
+    let q₆ = print-held (leb (getD b 1 0 / 8 + 2) (length b)) _ (q₅ .1) in
+    record {
+      two = leb-true _ _ (q₁ .0);
+      mix = q₂ .0;
+      low = eqb-true _ _ (q₃ .0);
+      some = leb-true _ _ (q₄ .0);
+      five = leb-true _ _ (q₅ .0);
+      fits = leb-true _ _ (q₆ .0);
+    }
+
+-- ---- no part takes more bytes than there are
+
+pub print-used : (b : List ℕ) → printPart b .ok ≡ true → printPart b .used ≤ length b
+unfolding printAt
+print-used b e = let r = print-right b e in rw (print-is b r) (r .fits)
+
+pub run-used : (n : ℕ) (b : List ℕ) → runOf n b .ok ≡ true → runOf n b .used ≤ length b
+unfolding runOf
+run-used zero b e = omega arith
+run-used (suc n) b e =
+    let q = both _ _ e in
+    let u = print-used b (q .0) in
+    let r = run-used n (drop (printPart b .used) b) (q .1) in
+    omega (arith, rw length-drop at r)
+
+pub id-used : (flag : ℕ) (b : List ℕ) → idPart flag b .used ≤ length b
+unfolding idPart
+id-used flag b =
+    let P : IdPart → Type 0 = λ p. p .used ≤ length b in
+    chosen P (eqb flag 0) _ _ (λ _. omega arith)
+    (λ _. chosen P (leb 21 (length b)) _ _
+    (λ e. chosen P (eqb (getD b 0 0) 0) _ _ (λ _. leb-true _ _ e) (λ _. omega arith))
+    (λ _. omega arith))
+
+pub video-used : (flag rate : ℕ) (b : List ℕ) → videoPart flag rate b .used ≤ length b
+unfolding videoPart oneField bothFields
+video-used flag rate b =
+    let P : VideoPart → Type 0 = λ p. p .used ≤ length b in
+    let none : 0 ≤ length b = omega arith in
+    chosen P (eqb flag 0) _ _ (λ _. none)
+    (λ _. chosen P (leb 2 (length b)) _ _
+    (λ e₂. chosen P (eqb (getD b 0 0) 0x09) _ _
+    (λ _. chosen P (leb (getD b 1 0) 240) _ _ (λ _. leb-true _ _ e₂) (λ _. none))
+    (λ _. chosen P (eqb (getD b 0 0) 0x11) _ _
+    (λ _. chosen P (twoFields rate) _ _
+    (λ _. chosen P (leb 3 (length b)) _ _
+    (λ e₃. chosen P (leb (getD b 1 0) 240) _ _
+    (λ _. chosen P (leb (getD b 2 0) 240) _ _ (λ _. leb-true _ _ e₃) (λ _. none)) (λ _. none)) (λ _. none)) (λ _. none)) (λ _. none)))
+    (λ _. none))
+
+pub audio-used : (flag : ℕ) (b : List ℕ) → audioPart flag b .used ≤ length b
+unfolding audioPart audioOf
+audio-used flag b =
+    let P : AudioPart → Type 0 = λ p. p .used ≤ length b in
+    let none : 0 ≤ length b = omega arith in
+    let n = getD b 0 0 / 8 + 1 in
+    chosen P (eqb flag 0) _ _ (λ _. none)
+    (λ _. chosen P (leb 1 (length b)) _ _
+    (λ e. chosen P (eqb (getD b 0 0 % 8) 2) _ _
+    (λ _. chosen P (runOf n (drop 1 b) .ok) _ _
+    (λ r. let u = run-used n (drop 1 b) r in omega (arith, rw length-drop at u, leb-true 1 (length b) e)) (λ _. none)) (λ _. none))
+    (λ _. none))
+
+-- ---- the outcome from the parts' outcomes
+
+module _ (counter flags : ℕ) (b : List ℕ) (i : IdPart) (ei : i ≡ idIn flags b) where
+  pub parts-25 : i .ok ≡ false → partsReading counter flags b ≡ refusal 25
+  unfolding partsReading joined
+  parts-25 f = rw (← ei, f)
+
+  module _ (fi : i .ok ≡ true) (v : VideoPart) (ev : v ≡ videoPart (flags / 2 % 2) (flags / 16) (drop (i .used) b)) where
+    pub parts-26 : v .ok ≡ false → partsReading counter flags b ≡ refusal 26
+    unfolding partsReading joined
+    parts-26 f = rw (← ei, ← ev, fi, f)
+
+    module _ (fv : v .ok ≡ true) (a : AudioPart) (ea : a ≡ audioPart (flags % 2) (drop (i .used + v .used) b)) where
+      pub parts-27 : a .ok ≡ false → partsReading counter flags b ≡ refusal 27
+      unfolding partsReading joined
+      parts-27 f = rw (← ei, ← ev, ← ea, fi, fv, f)
+
+      pub parts-28 : a .ok ≡ true → (i .used + v .used + a .used ≡ length b → ⊥) → partsReading counter flags b ≡ refusal 28
+      unfolding partsReading joined
+      parts-28 f d = rw (← ei, ← ev, ← ea, fi, fv, f, ne-eqb _ _ d)
+
+      pub parts-0 : a .ok ≡ true → i .used + v .used + a .used ≡ length b → partsReading counter flags b ≡ accepted counter flags i v a
+      unfolding partsReading joined
+      parts-0 f d = rw (← ei, ← ev, ← ea, fi, fv, f, eq-eqb _ _ d)

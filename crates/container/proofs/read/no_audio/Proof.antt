@@ -1,0 +1,14 @@
+-- `container::read::no_audio` meets its contract.
+use mathlib.Core.Path.{_≡_, refl}
+use borrow.Author.Needs.{needs}
+use Rattle.container.proofs.read.no_audio.Statement.{statement}
+use Rattle.container.proofs.read.no_audio.Tie as tie
+
+blank-requires : tie.Need-blank-requires
+blank-requires c κs = search needs
+
+returns : tie.Need-returns
+returns c = rw (c .blank .ensures)
+
+pub no-audio-spec : {M : Type 1} → statement M
+no-audio-spec = tie.close (tie.spec blank-requires returns)

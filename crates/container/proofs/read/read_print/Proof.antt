@@ -1,0 +1,135 @@
+-- `container::read::read_print` meets its contract: each answer by the tests that led to it.
+use Prim.Native.Nat.{ℕ, _+_, _-_, _/_, _%_}
+use mathlib.Core.Path.{_≡_, sym, _∙_}
+use mathlib.Core.List.{List}
+use mathlib.Core.Bool.{true, false}
+use native.Mathlib.Omega.{arith}
+use native.Mathlib.Nat.{add-sub-cancel}
+use borrow.Author.Tests.{not-true, not-false}
+use lib.ListN.{length, getD, take, drop, replicate, length-drop}
+use lib.Seq.{length-take-le}
+use Rattle.laws.proofs.Tests.{tests}
+use Rattle.laws.proofs.Lists.{sets-over}
+use Rattle.rates.specs.Mixes.{mixListed}
+use Rattle.container.specs.Parts.{printPart, printAt}
+use Rattle.container.proofs.Parts.{PrintRight, print-is}
+use borrow.Author.Needs.{needs}
+use Rattle.container.proofs.read.read_print.Statement.{statement}
+use Rattle.container.proofs.read.read_print.Tie as tie
+
+unlisted : (c : tie.Then2) → mixListed (getD (c .before .before .before .before .before .before .args .b .now) 0 0 % 8) ≡ false
+unlisted c = sym (c .before .mix-listed .ensures) ∙ not-true _ (c .if2 .taken)
+
+listed : (c : tie.Else2) → mixListed (getD (c .before .before .before .before .before .before .args .b .now) 0 0 % 8) ≡ true
+listed c = sym (c .before .mix-listed .ensures) ∙ not-false _ (c .if2 .left)
+
+no-print-requires : tie.Need-no-print-requires
+no-print-requires c κs = search needs
+
+returns : tie.Need-returns
+unfolding printPart
+returns c = rw (c .no-print .ensures) (search tests)
+
+shared-slice-read-name : tie.Need-shared-slice-read-name
+shared-slice-read-name c = search needs
+
+shared-slice-read-counted : tie.Need-shared-slice-read-counted
+shared-slice-read-counted c = search needs
+
+mix-listed-requires : tie.Need-mix-listed-requires
+mix-listed-requires c κs = search needs
+
+no-print-requires-2 : tie.Need-no-print-requires-2
+no-print-requires-2 c κs = search needs
+
+returns-2 : tie.Need-returns-2
+unfolding printPart
+returns-2 c = rw (c .no-print2 .ensures) (search (tests, unlisted))
+
+no-print-requires-3 : tie.Need-no-print-requires-3
+no-print-requires-3 c κs = search needs
+
+returns-3 : tie.Need-returns-3
+unfolding printPart
+returns-3 c = rw (c .no-print3 .ensures) (search (tests, listed))
+
+no-print-requires-4 : tie.Need-no-print-requires-4
+no-print-requires-4 c κs = search needs
+
+returns-4 : tie.Need-returns-4
+unfolding printPart
+returns-4 c = rw (c .no-print4 .ensures) (search (tests, listed))
+
+no-print-requires-5 : tie.Need-no-print-requires-5
+no-print-requires-5 c κs = search needs
+
+returns-5 : tie.Need-returns-5
+unfolding printPart
+returns-5 c = rw (c .no-print5 .ensures) (search (tests, listed))
+
+cast-end : tie.Need-cast-end
+cast-end c = search needs
+
+add-end : tie.Need-add-end
+add-end c = search needs
+
+no-print-requires-6 : tie.Need-no-print-requires-6
+no-print-requires-6 c κs = search needs
+
+returns-6 : tie.Need-returns-6
+unfolding printPart
+returns-6 c = rw (c .no-print6 .ensures) (search (tests, listed))
+
+sub-copy-at : tie.Need-sub-copy-at
+sub-copy-at c = search needs
+
+part-copy-at-start : tie.Need-part-copy-at-start
+part-copy-at-start c = search needs
+
+part-copy-at-end : tie.Need-part-copy-at-end
+part-copy-at-end c = search needs
+
+slice-aggregate-copy-at : tie.Need-slice-aggregate-copy-at
+slice-aggregate-copy-at c = search needs
+
+copy-at-requires : tie.Need-copy-at-requires
+copy-at-requires c κs = search needs
+
+returns-7 : tie.Need-returns-7
+unfolding printAt
+returns-7 c =
+    let d = c .before .before .before .before .before .before .before .before in
+    let b : List ℕ = d .before .before .before .before .before .before .args .b .now in
+    let n : ℕ = getD b 1 0 / 8 in
+    let right : PrintRight b =
+    record { two = omega arith; mix = listed d; low = search needs; some = omega arith; five = omega arith; fits = omega arith } in
+    let l : length (take n (drop 2 b)) ≡ n = length-take-le n (drop 2 b) (rw length-drop (omega arith)) in
+    rw (c .before .copy-at .ensures, add-sub-cancel, sets-over (take n (drop 2 b)) (replicate 5 0) (omega arith)) (sym (print-is b right))
+
+pub read-print-spec : {M : Type 1} → statement M
+read-print-spec =
+    tie.close
+    (tie.spec
+    no-print-requires
+    returns
+    shared-slice-read-name
+    shared-slice-read-counted
+    mix-listed-requires
+    no-print-requires-2
+    returns-2
+    no-print-requires-3
+    returns-3
+    no-print-requires-4
+    returns-4
+    no-print-requires-5
+    returns-5
+    cast-end
+    add-end
+    no-print-requires-6
+    returns-6
+    sub-copy-at
+    part-copy-at-start
+    part-copy-at-end
+    slice-aggregate-copy-at
+    copy-at-requires
+    returns-7)

@@ -1,0 +1,125 @@
+// A container: what it says, read from its bytes and written to them (01, The container; 000, 6).
+ghost use mathlib.Core.Path.{_≡_};
+ghost use Prim.Native.Nat.{_%_};
+ghost use lib.ListN.{length};
+ghost use Rattle.laws.specs.Sums.{sum};
+ghost use Rattle.container.specs.Reading.{reading};
+ghost use Rattle.container.specs.Writing.{writeDone, writeOut};
+use laws::Done;
+
+mod read;
+mod valid;
+mod write;
+
+// What a container says of its video.
+pub enum Video {
+    Absent,
+    One(u8),
+    Two(u8, u8),
+}
+
+// One audio fingerprint: AFDataCount is its size, and unused bytes are zero.
+pub struct Print {
+    pub id: u8,
+    pub mix: u8,
+    pub size: u8,
+    pub bytes: [u8; 5],
+}
+
+pub struct Contents {
+    pub counter: u8,
+    pub rate: u8,
+    pub hasid: bool,
+    pub id: [u8; 20],
+    pub video: Video,
+    pub count: u8,
+    pub prints: [Print; 32],
+}
+
+// 0 and what the container says, or the refusal's number and all zero.
+pub struct Reading {
+    pub number: u8,
+    pub contents: Contents,
+}
+
+// A part as it is read: whether it is right, how many bytes it takes, and what it says.
+pub struct IdPart {
+    pub ok: bool,
+    pub used: usize,
+    pub id: [u8; 20],
+}
+
+pub struct VideoPart {
+    pub ok: bool,
+    pub used: usize,
+    pub video: Video,
+}
+
+pub struct PrintPart {
+    pub ok: bool,
+    pub used: usize,
+    pub print: Print,
+}
+
+pub struct AudioPart {
+    pub ok: bool,
+    pub used: usize,
+    pub count: u8,
+    pub prints: [Print; 32],
+}
+
+// The sum of all bytes, modulo 256.
+fn byte_sum(s: &[u8]) -> u8
+    ensures { λ r. ⌜ r ≡ sum (now (s .entry)) % 256 ⌝ }
+{
+    let mut total: u32 = 0;
+    let mut i = 0;
+    while i < s.len() {
+        total = (total + s[i] as u32) % 256;
+        i += 1;
+    }
+    total as u8
+}
+
+// Read container: 20 to 28.
+pub fn read_container(bytes: &[u8]) -> Reading
+    ensures { λ r. ⌜ r ≡ reading (now (bytes .entry)) ⌝ }
+{
+    let number = read::header_number(bytes);
+    if number != 0 {
+        return read::refused(number);
+    }
+    let end = bytes.len() - 1;
+    read::read_parts(bytes[1], bytes[3], &bytes[4..end])
+}
+
+// Write: 29, 13, 12.
+pub fn write_container(contents: Contents, out: &mut [u8]) -> Done
+    ensures { λ r. ⌜ (r ≡ writeDone contents (length (now (out .entry)))) × (now (out .exit) ≡ writeOut contents (now (out .entry))) ⌝ }
+{
+    if !valid::readable(contents) {
+        return Done {
+            number: 29,
+            written: 0,
+        };
+    }
+    let mut bytes = [0u8; 256];
+    let size = write::encode(contents, &mut bytes);
+    if 255 < size {
+        return Done {
+            number: 13,
+            written: 0,
+        };
+    }
+    if out.len() < size {
+        return Done {
+            number: 12,
+            written: 0,
+        };
+    }
+    laws::copy_at(&bytes[..size], out, 0);
+    Done {
+        number: 0,
+        written: size,
+    }
+}

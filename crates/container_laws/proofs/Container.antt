@@ -1,0 +1,109 @@
+-- The theorems about containers: both round trips (demand 2), what 29 means, and the largest container.
+use Prim.Native.Nat.{ℕ, _≤_}
+use mathlib.Core.List.{List, [], _∷_}
+use mathlib.Core.Path.{_≡_, refl, ap, sym, subst, _∙_}
+use mathlib.Core.Bool.{Bool, true, false, cond}
+use mathlib.Core.Logic.{_↔_}
+use native.Mathlib.Omega.{arith}
+use lib.ListN.{length, take, replicate}
+use lib.Dec.{leb, ltb, eqb}
+use Rattle.laws.specs.Bytes.{Bytes}
+use Rattle.laws.specs.Calls.{over, roomNumber, doneWith}
+use Rattle.laws.specs.Sums.{sum}
+use Rattle.laws.proofs.Calls.{done, told-zero, handed}
+use Rattle.laws.proofs.Tests.{past}
+use Rattle.rates.specs.Rates.{rateListed, twoFields}
+use Rattle.rates.specs.Mixes.{mixListed}
+use Rattle.container.specs.declared.Video.the-variants.{Two}
+use Rattle.container.specs.declared.Print.{Print}
+use Rattle.container.specs.declared.Contents.{Contents}
+use Rattle.container.specs.declared.Reading.{Reading}
+use Rattle.container.specs.Bytes.{idBytes, videoBytes, printBytes, runBytes, audioBytes, partBytes, flagByte, frontBytes, checkOf, encode}
+use Rattle.container.specs.Reading.{headerNumber, joined, partsReading, middle, reading}
+use Rattle.container.specs.Parts.{idPart, bothFields, videoPart, printPart, printAt, runOf, audioOf, audioPart}
+use Rattle.container.specs.Writing.{readable, contentsNumber, writeNumber, writeDone, writeOut}
+use Rattle.container.proofs.Outcome.{write-0}
+use Rattle.container_laws.specs.Typed.{Typed}
+use Rattle.container_laws.proofs.Back.{written-again}
+use Rattle.container_laws.proofs.There.{read-as-written}
+use Rattle.container_laws.proofs.Gives.{reading-readable}
+use Rattle.container_laws.proofs.Sizes.{at-most-254, encode-bytes}
+
+-- contents that pass 29 and 13 are readable
+passed : (c : Contents) → contentsNumber c ≡ 0 → readable c ≡ true
+unfolding contentsNumber
+passed c e = past (readable c) 29 _ e (omega arith) .0
+
+refused : (c : Contents) → (readable c ≡ true → ⊥) → readable c ≡ false
+refused c f = go (readable c) refl
+  where
+    go : (t : Bool) → readable c ≡ t → readable c ≡ false
+    go true e = absurd (f e)
+    go false e = e
+
+is-29 : (c : Contents) (room : ℕ) → readable c ≡ false → writeDone c room .number ≡ 29
+unfolding writeDone writeNumber doneWith roomNumber contentsNumber
+is-29 c room e = rw e
+
+-- 29 comes only from contents that are not readable
+not-29 : (c : Contents) (room : ℕ) → readable c ≡ true → writeDone c room .number ≡ 29 → ⊥
+unfolding writeDone writeNumber doneWith roomNumber contentsNumber
+not-29 c room f e = go (leb (length (encode c)) 255) (ltb room (length (encode c))) (rw f at e)
+  where
+    go : (t u : Bool) → _≡_ {A = ℕ} (cond (eqb (cond t 0 13) 0) (cond u 12 0) (cond t 0 13)) 29 → ⊥
+    go true true h = omega (arith, h)
+    go true false h = omega (arith, h)
+    go false u h = omega (arith, h)
+
+-- what an accepted reading of these contents is
+abbrev pub says : Contents → Reading
+says c = record { number = 0; contents = c }
+
+-- an accepted container has 5 to 254 bytes: 4 + 21 + 3 + 225 + 1 at most
+pub accepted-size : (s : List ℕ) → Bytes s → reading s .number ≡ 0 → (5 ≤ length s) × (length s ≤ 254)
+accepted-size s b e = at-most-254 s b e
+
+-- "An accepted container, written again from what was read, gives its own bytes"
+pub rewritten : (s out : List ℕ) → Bytes s → reading s .number ≡ 0 → length s ≤ length out
+    → (done 0 (length s) ≡ writeDone (reading s .contents) (length out)) × (over s out ≡ writeOut (reading s .contents) out)
+rewritten s out b e room =
+    let same = written-again s b e in
+    let w = write-0 (reading s .contents) out (reading-readable s b e) (length s) (ap length (sym same)) (omega (arith, accepted-size s b e .1)) room in
+    (w .0, ap (λ (l : List ℕ). over l out) (sym same) ∙ w .1)
+
+-- "each one written reads back as the same contents"
+pub read-back : (c : Contents) (out : List ℕ) → Typed c → writeDone c (length out) .number ≡ 0
+    → reading (take (writeDone c (length out) .written) (writeOut c out)) ≡ says c
+unfolding writeDone writeOut writeNumber doneWith
+read-back c out t e =
+    let q = told-zero (contentsNumber c) (encode c) (length out) e in
+    ap reading (handed (writeNumber c (length out)) (encode c) out e) ∙ read-as-written c t (passed c (q .0))
+
+-- ---- 29 is exactly "contents that no reading gives"
+
+pub record ReadAs (c : Contents) : Type 0 where
+  pub container : List ℕ
+  pub bytes : Bytes container
+  pub reads : reading container ≡ says c
+
+pub some-reading : (c : Contents) → Typed c → (readable c ≡ true) ↔ ReadAs c
+some-reading c t = (
+  λ e. record { container = encode c; bytes = encode-bytes c t e; reads = read-as-written c t e },
+  λ r. subst (λ (x : Reading). readable (x .contents) ≡ true) (r .reads)
+      (reading-readable (r .container) (r .bytes) (ap (λ (x : Reading). x .number) (r .reads))),
+)
+
+pub exactly-29 : (c : Contents) (room : ℕ) → Typed c → (writeDone c room .number ≡ 29) ↔ (ReadAs c → ⊥)
+exactly-29 c room t = (λ e r. not-29 c room (some-reading c t .1 r) e, λ f. is-29 c room (refused c (λ e. f (some-reading c t .0 e))))
+
+-- ---- the largest container there is
+
+abbrev full : Print
+full = record { id = 31; mix = 5; size = 5; bytes = replicate 5 255 }
+
+abbrev biggest : Contents
+biggest = record { counter = 255; rate = 5; hasid = true; id = replicate 20 255; video = Two 240 240; count = 32; prints = replicate 32 full }
+
+pub largest : (reading (encode biggest) .number ≡ 0) × (length (encode biggest) ≡ 254)
+unfolding encode frontBytes partBytes idBytes videoBytes audioBytes runBytes printBytes flagByte checkOf sum reading headerNumber partsReading joined middle idPart videoPart bothFields audioPart audioOf runOf printPart printAt over rateListed twoFields mixListed
+largest = (refl, refl)

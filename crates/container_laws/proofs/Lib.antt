@@ -1,0 +1,5 @@
+pub mod Container
+pub mod Back
+pub mod There
+pub mod Gives
+pub mod Sizes

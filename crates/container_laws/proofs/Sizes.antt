@@ -1,0 +1,173 @@
+-- How many bytes an accepted container has at most, and that what is written are bytes.
+use Prim.Native.Nat.{ℕ, zero, suc, _+_, _-_, _*_, _/_, _%_, _≤_, _<_}
+use mathlib.Core.List.{List, [], _∷_, _++_}
+use mathlib.Core.Path.{_≡_, refl, ap, sym, _∙_}
+use mathlib.Core.Bool.{Bool, true, false, cond, _&&_}
+use native.Mathlib.Omega.{arith}
+use native.Mathlib.Nat.{not-suc-le-zero}
+use lib.ListN.{length, getD, take, drop, replicate}
+use lib.Dec.{leb, eqb}
+use borrow.Author.Tests.{leb-true}
+use Rattle.laws.specs.Bytes.{Bytes}
+use Rattle.laws.specs.Sums.{sum}
+use Rattle.laws.proofs.Bytes.{bytes-nil, bytes-cons, bytes-append, bytes-take, bytes-drop}
+use Rattle.laws.proofs.Tests.{both, chosen}
+use Rattle.rates.specs.Rates.{twoFields}
+use Rattle.container.specs.declared.Video.{Video}
+use Rattle.container.specs.declared.Video.the-variants.{Absent, One, Two}
+use Rattle.container.specs.declared.Print.{Print}
+use Rattle.container.specs.declared.IdPart.{IdPart}
+use Rattle.container.specs.declared.VideoPart.{VideoPart}
+use Rattle.container.specs.declared.PrintPart.{PrintPart}
+use Rattle.container.specs.declared.AudioPart.{AudioPart}
+use Rattle.container.specs.declared.Contents.{Contents}
+use Rattle.container.specs.Bytes.{idBytes, videoBytes, printBytes, runBytes, audioBytes, partBytes, videoFlag, audioFlag, flagByte, frontBytes, checkOf, encode}
+use Rattle.container.specs.Parts.{idPart, oneField, bothFields, videoPart, printPart, printAt, runOf, audioOf, audioPart}
+use Rattle.container.specs.Reading.{idIn, videoIn, audioIn, middle, reading}
+use Rattle.container.specs.Writing.{printReadable, printsReadable, readable}
+use Rattle.container.proofs.Parts.{print-right, print-is}
+use Rattle.container.proofs.Readable.{Passes, passes, print-fits, readable-fits}
+use Rattle.container.proofs.Bytes.{parts-at-most}
+use Rattle.container_laws.specs.Typed.{TypedPrint, TypedPrints, TypedVideo, Typed}
+use Rattle.container_laws.proofs.Back.{Accepted, accepted-is, middle-length}
+
+-- ---- no part takes more than 21, 3 and 225 bytes
+
+id-most : (flag : ℕ) (b : List ℕ) → idPart flag b .used ≤ 21
+unfolding idPart
+id-most flag b =
+    let P : IdPart → Type 0 = λ p. p .used ≤ 21 in
+    chosen P (eqb flag 0) _ _ (λ _. omega arith)
+    (λ _. chosen P (leb 21 (length b)) _ _ (λ _. chosen P (eqb (getD b 0 0) 0) _ _ (λ _. omega arith) (λ _. omega arith)) (λ _. omega arith))
+
+video-most : (flag rate : ℕ) (b : List ℕ) → videoPart flag rate b .used ≤ 3
+unfolding videoPart oneField bothFields
+video-most flag rate b =
+    let P : VideoPart → Type 0 = λ p. p .used ≤ 3 in
+    let none : 0 ≤ 3 = omega arith in
+    chosen P (eqb flag 0) _ _ (λ _. none)
+    (λ _. chosen P (leb 2 (length b)) _ _
+    (λ _. chosen P (eqb (getD b 0 0) 0x09) _ _
+    (λ _. chosen P (leb (getD b 1 0) 240) _ _ (λ _. omega arith) (λ _. none))
+    (λ _. chosen P (eqb (getD b 0 0) 0x11) _ _
+    (λ _. chosen P (twoFields rate) _ _
+    (λ _. chosen P (leb 3 (length b)) _ _
+    (λ _. chosen P (leb (getD b 1 0) 240) _ _
+    (λ _. chosen P (leb (getD b 2 0) 240) _ _ (λ _. omega arith) (λ _. none)) (λ _. none)) (λ _. none)) (λ _. none)) (λ _. none)))
+    (λ _. none))
+
+run-most : (n : ℕ) (b : List ℕ) → runOf n b .ok ≡ true → runOf n b .used ≤ 7 * n
+unfolding runOf printAt
+run-most zero b e = omega arith
+run-most (suc n) b e =
+    let q = both (printPart b .ok) _ e in
+    let r = print-right b (q .0) in
+    omega (arith, ap (λ (p : PrintPart). p .used) (print-is b r), r .five, run-most n (drop (printPart b .used) b) (q .1))
+
+audio-most : (flag : ℕ) (b : List ℕ) → Bytes b → audioPart flag b .used ≤ 225
+unfolding audioPart audioOf
+audio-most flag b s =
+    let P : AudioPart → Type 0 = λ p. p .used ≤ 225 in
+    let none : 0 ≤ 225 = omega arith in
+    let n = getD b 0 0 / 8 + 1 in
+    chosen P (eqb flag 0) _ _ (λ _. none)
+    (λ _. chosen P (leb 1 (length b)) _ _
+    (λ _. chosen P (eqb (getD b 0 0 % 8) 2) _ _
+    (λ _. chosen P (runOf n (drop 1 b) .ok) _ _ (λ r. omega (arith, run-most n (drop 1 b) r, s 0)) (λ _. none)) (λ _. none))
+    (λ _. none))
+
+pub at-most-254 : (s : List ℕ) → Bytes s → reading s .number ≡ 0 → (5 ≤ length s) × (length s ≤ 254)
+unfolding middle
+at-most-254 s small e =
+    let a = accepted-is s e in
+    let flags = getD s 3 0 in
+    let b = middle s in
+    let p = idIn flags b .used in
+    let q = videoIn flags b .used in
+    let five = a .header .five in
+    let m = bytes-take (length s - 5) (drop 4 s) (bytes-drop 4 s small) in (
+      five,
+      omega (
+        arith,
+        a .parts .whole,
+        middle-length s five,
+        id-most (flags / 4 % 2) b,
+        video-most (flags / 2 % 2) (flags / 16) (drop p b),
+        audio-most (flags % 2) (drop (p + q) b) (bytes-drop (p + q) b m),
+      ),
+    )
+
+-- ---- what is written are bytes
+
+id-bytes : (present : Bool) (id : List ℕ) → Bytes id → Bytes (idBytes present id)
+unfolding idBytes
+id-bytes true id b = bytes-cons 0 id (omega arith) b
+id-bytes false id b = bytes-nil
+
+video-bytes : (v : Video) → TypedVideo v → Bytes (videoBytes v)
+unfolding videoBytes TypedVideo
+video-bytes Absent t = bytes-nil
+video-bytes (One a) t = bytes-cons 0x09 (a ∷ []) (omega arith) (bytes-cons a [] t bytes-nil)
+video-bytes (Two a b) t = bytes-cons 0x11 (a ∷ b ∷ []) (omega arith) (bytes-cons a (b ∷ []) (t .0) (bytes-cons b [] (t .1) bytes-nil))
+
+print-bytes : (p : Print) → TypedPrint p → printReadable p ≡ true → Bytes (printBytes p)
+unfolding printBytes
+print-bytes p t e =
+    let f = print-fits p e in
+    let id = f .id in
+    let mix = f .mix in
+    let five = f .five in
+    let xs : List ℕ = take (p .size) (p .bytes) in
+    bytes-cons (p .id * 8 + p .mix) ((p .size * 8) ∷ xs) (omega arith) (bytes-cons (p .size * 8) xs (omega arith) (bytes-take (p .size) (p .bytes) (t .bytes)))
+
+run-bytes : (n : ℕ) (ps : List Print) → TypedPrints ps → printsReadable n ps ≡ true → Bytes (runBytes (take n ps))
+unfolding runBytes printsReadable TypedPrints
+run-bytes zero ps t e = bytes-nil
+run-bytes (suc n) [] t e = bytes-nil
+run-bytes (suc n) (p ∷ ps) t e =
+    let q = both (printReadable p) _ e in
+    bytes-append (printBytes p) (runBytes (take n ps)) (print-bytes p (t .0) (q .0)) (run-bytes n ps (t .1) (q .1))
+
+audio-bytes : (n : ℕ) (ps : List Print) → n ≤ 32 → TypedPrints ps → printsReadable n ps ≡ true → Bytes (audioBytes n ps)
+unfolding audioBytes
+audio-bytes zero ps h t e = bytes-nil
+audio-bytes (suc n) ps h t e = bytes-cons (n * 8 + 2) (runBytes (take (suc n) ps)) (omega arith) (run-bytes (suc n) ps t e)
+
+flag-small : (c : Contents) → c .rate ≤ 11 → flagByte c < 256
+unfolding flagByte
+flag-small c h = omega (arith, id-flag (c .hasid), video-flag (c .video), audio-flag (c .count))
+  where
+    id-flag : (present : Bool) → cond present 1 0 ≤ 1
+    id-flag true = omega arith
+    id-flag false = omega arith
+
+    video-flag : (v : Video) → videoFlag v ≤ 1
+    video-flag Absent = omega arith
+    video-flag (One a) = omega arith
+    video-flag (Two a b) = omega arith
+
+    audio-flag : (n : ℕ) → audioFlag n ≤ 1
+    audio-flag zero = omega arith
+    audio-flag (suc n) = omega arith
+
+pub encode-bytes : (c : Contents) → Typed c → readable c ≡ true → Bytes (encode c)
+unfolding encode frontBytes partBytes checkOf
+encode-bytes c t e =
+    let p = passes c e in
+    let f = readable-fits c (t .many) e in
+    let l = parts-at-most c (record { id = t .id-long; prints = t .many }) f in
+    let I : List ℕ = idBytes (c .hasid) (c .id) in
+    let W : List ℕ = videoBytes (c .video) in
+    let A : List ℕ = audioBytes (c .count) (c .prints) in
+    let parts : Bytes (partBytes c) =
+    bytes-append (I ++ W) A (bytes-append I W (id-bytes (c .hasid) (c .id) (t .id)) (video-bytes (c .video) (t .video)))
+    (audio-bytes (c .count) (c .prints) (p .many) (t .prints) (p .prints)) in
+    let b : List ℕ = partBytes c in
+    let n : ℕ = length b + 2 in
+    let z : ℕ = checkOf (sum (frontBytes c)) in
+    let front : Bytes (frontBytes c) =
+    bytes-cons 0 (c .counter ∷ n ∷ flagByte c ∷ b) (omega arith)
+    (bytes-cons (c .counter) (n ∷ flagByte c ∷ b) (t .counter)
+    (bytes-cons n (flagByte c ∷ b) (omega arith)
+    (bytes-cons (flagByte c) b (flag-small c (f .rate)) parts))) in
+    bytes-append (frontBytes c) (z ∷ []) front (bytes-cons z [] (omega arith) bytes-nil)

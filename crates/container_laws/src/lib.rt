@@ -1,0 +1,1 @@
+// Theorems about containers, in proofs/; there is no code here.

@@ -1,0 +1,7 @@
+pub mod Tests
+pub mod Lists
+pub mod Sums
+pub mod Bytes
+pub mod Calls
+pub mod Once
+pub mod Unique

@@ -1,0 +1,40 @@
+-- Laws on lists that the kit does not have.
+use Prim.Native.Nat.{ℕ, zero, suc, _+_, _≤_, _<_}
+use mathlib.Core.Path.{_≡_, refl, sym, ap, _∙_}
+use mathlib.Core.List.{List, [], _∷_, _++_}
+use native.Mathlib.Omega.{arith}
+use native.Mathlib.Numerals.{add-one}
+use native.Mathlib.Nat.{add-zero, add-suc, suc-add, zero-add, not-suc-le-zero, le-of-suc-le-suc}
+use lib.ListN.{length, getD, drop, set}
+use lib.Seq.{sets, sets-eq, set-out, drop-cons}
+use Rattle.laws.specs.Calls.{over}
+
+module _ {A : Type 0} where
+  -- a run of stores, then one from where it ended
+  pub sets-append : (l : List A) (i : ℕ) (xs ys : List A) → sets (sets l i xs) (i + length xs) ys ≡ sets l i (xs ++ ys)
+  sets-append l i [] ys = rw add-zero
+  sets-append l i (x ∷ xs) ys = rw (add-suc, ← suc-add) (sets-append (set l i x) (suc i) xs ys)
+
+  pub sets-then : (l l′ l″ xs ys : List A) (i j : ℕ) → l′ ≡ sets l i xs → j ≡ i + length xs → l″ ≡ sets l′ j ys → l″ ≡ sets l i (xs ++ ys)
+  sets-then l l′ l″ xs ys i j p q r = r ∙ rw (p, q) (sets-append l i xs ys)
+
+  -- stores past the end change nothing
+  pub sets-out : (l : List A) (i : ℕ) (xs : List A) → length l ≤ i → sets l i xs ≡ l
+  sets-out l i [] h = refl
+  sets-out l i (x ∷ xs) h = rw (set-out l i x h) (sets-out l (suc i) xs (omega arith))
+
+  -- one store of a run that is left
+  pub sets-step : (l s : List A) (at i : ℕ) (d : A) → i < length s
+      → sets l (at + i) (drop i s) ≡ sets (set l (at + i) (getD s i d)) (at + (i + 1)) (drop (i + 1) s)
+  sets-step l s at i d h = rw (drop-cons s i d, add-one, add-suc)
+
+  -- below its length a list's element does not turn on the default
+  pub getD-any : (l : List A) (k : ℕ) (d e : A) → k < length l → getD l k d ≡ getD l k e
+  getD-any [] k d e h = absurd (not-suc-le-zero h)
+  getD-any (x ∷ l) zero d e h = refl
+  getD-any (x ∷ l) (suc k) d e h = getD-any l k d e (le-of-suc-le-suc h)
+
+-- stores from the start on stand over the front
+pub sets-over : (bytes out : List ℕ) → length bytes ≤ length out → sets out 0 bytes ≡ over bytes out
+unfolding over
+sets-over bytes out h = sets-eq bytes out 0 (omega arith) ∙ simp zero-add

@@ -1,0 +1,61 @@
+-- `report::report` meets its contract.
+use Prim.Native.Nat.{ℕ}
+use mathlib.Core.Path.{_≡_, refl, sym, ap, subst, _∙_}
+use mathlib.Core.List.{List}
+use borrow.Author.Tests.{eq-eqb, ne-eqb}
+use lib.ListN.{length}
+use lib.Seq.{sets}
+use Rattle.container.specs.declared.Reading.{Reading}
+use Rattle.container.specs.Reading.{reading}
+use Rattle.report.specs.Report.{acceptedText, refusedText, reported}
+use borrow.Author.Needs.{needs}
+use Rattle.report.proofs.report.Statement.{statement}
+use Rattle.report.proofs.report.Tie as tie
+
+-- the line of an accepted reading, and of a refused one
+ok-line : (r : Reading) → r .number ≡ 0 → acceptedText (r .contents) ≡ reported r
+unfolding reported
+ok-line r e = rw (eq-eqb (r .number) 0 e)
+
+bad-line : (r : Reading) → (r .number ≡ 0 → ⊥) → refusedText (r .number) ≡ reported r
+unfolding reported
+bad-line r e = rw (ne-eqb (r .number) 0 e)
+
+read-container-requires : tie.Need-read-container-requires
+read-container-requires c κs = search needs
+
+put-accepted-requires : tie.Need-put-accepted-requires
+put-accepted-requires c κs = search needs
+
+same-length : tie.Need-same-length
+same-length c = search needs
+
+returns : tie.Need-returns
+returns c =
+    let r = c .before .before .before .before .before .before .read-container .result in
+    let l : acceptedText (r .contents) ≡ reported (reading (c .before .before .before .before .before .before .before .before .before .args .bytes .now)) = ok-line r (c .before .before .before .before .if1 .taken) ∙ ap reported (c .before .before .before .before .before .before .read-container .ensures) in
+    (c .before .before .put-accepted .ensures .0 ∙ ap length l, c .before .before .put-accepted .ensures .1 ∙ ap (sets (c .before .before .before .before .before .before .before .before .before .args .out .now) 0) l)
+
+put-refused-requires : tie.Need-put-refused-requires
+put-refused-requires c κs = search needs
+
+same-length-2 : tie.Need-same-length-2
+same-length-2 c = search needs
+
+returns-2 : tie.Need-returns-2
+returns-2 c =
+    let r = c .before .before .before .before .before .before .read-container .result in
+    let l : refusedText (r .number) ≡ reported (reading (c .before .before .before .before .before .before .before .before .before .args .bytes .now)) = bad-line r (c .before .before .before .before .if1 .left) ∙ ap reported (c .before .before .before .before .before .before .read-container .ensures) in
+    (c .before .before .put-refused .ensures .0 ∙ ap length l, c .before .before .put-refused .ensures .1 ∙ ap (sets (c .before .before .before .before .before .before .before .before .before .args .out .now) 0) l)
+
+pub report-spec : {M : Type 1} → statement M
+report-spec =
+    tie.close
+    (tie.spec
+    read-container-requires
+    put-accepted-requires
+    same-length
+    returns
+    put-refused-requires
+    same-length-2
+    returns-2)

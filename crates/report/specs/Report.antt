@@ -1,0 +1,71 @@
+-- The line of 01's program: "counter, rate code, ID present (1) or not, number of video values then the values, number of audio fingerprints";
+-- "A refusal prints `refused` and the number". In ASCII, with the line's end.
+use Prim.Native.Nat.{ℕ}
+use mathlib.Core.List.{List, [], _∷_, _++_}
+use mathlib.Core.Bool.{Bool, cond}
+use lib.Dec.{eqb}
+use lib.ListN.{take}
+use Rattle.text.specs.Spelling.{decimalText}
+use Rattle.container.specs.declared.Video.{Video}
+use Rattle.container.specs.declared.Video.the-variants.{Absent, One, Two}
+use Rattle.container.specs.declared.Contents.{Contents}
+use Rattle.container.specs.declared.Reading.{Reading}
+use Rattle.container.specs.Reading.{reading}
+
+-- a label and the number after it
+unfoldable pub item : List ℕ → ℕ → List ℕ
+item label n = label ++ decimalText n
+
+-- `ok seq `
+abbrev pub okSeq : List ℕ
+okSeq = 111 ∷ 107 ∷ 32 ∷ 115 ∷ 101 ∷ 113 ∷ 32 ∷ []
+
+-- ` rate `
+abbrev pub rate : List ℕ
+rate = 32 ∷ 114 ∷ 97 ∷ 116 ∷ 101 ∷ 32 ∷ []
+
+-- ` id `
+abbrev pub id : List ℕ
+id = 32 ∷ 105 ∷ 100 ∷ 32 ∷ []
+
+-- ` video `
+abbrev pub video : List ℕ
+video = 32 ∷ 118 ∷ 105 ∷ 100 ∷ 101 ∷ 111 ∷ 32 ∷ []
+
+-- ` audio `
+abbrev pub audio : List ℕ
+audio = 32 ∷ 97 ∷ 117 ∷ 100 ∷ 105 ∷ 111 ∷ 32 ∷ []
+
+-- `refused `
+abbrev pub refused : List ℕ
+refused = 114 ∷ 101 ∷ 102 ∷ 117 ∷ 115 ∷ 101 ∷ 100 ∷ 32 ∷ []
+
+abbrev pub space : List ℕ
+space = 32 ∷ []
+
+abbrev pub newline : List ℕ
+newline = 10 ∷ []
+
+unfoldable pub videoText : Video → List ℕ
+videoText Absent = item video 0
+videoText (One a) = item video 1 ++ item space a
+videoText (Two a b) = item video 2 ++ item space a ++ item space b
+
+unfoldable pub acceptedText : Contents → List ℕ
+acceptedText c =
+    item okSeq (c .counter)
+    ++ item rate (c .rate)
+    ++ item id (cond (c .hasid) 1 0)
+    ++ videoText (c .video)
+    ++ item audio (c .count)
+    ++ newline
+
+unfoldable pub refusedText : ℕ → List ℕ
+refusedText n = item refused n ++ newline
+
+unfoldable pub reported : Reading → List ℕ
+reported r = cond (eqb (r .number) 0) (acceptedText (r .contents)) (refusedText (r .number))
+
+-- "A program takes up to 300 bytes .., reads them as a container and prints one line"; "Of a longer input the first 300 bytes are taken"
+unfoldable pub inspected : List ℕ → List ℕ
+inspected input = reported (reading (take 300 input))

@@ -1,0 +1,146 @@
+// make/script.rs: a feed in the making, with a session of its own that tells what the next call will meet.
+
+use super::picture::{self, Liveliness};
+use super::random::Random;
+use super::sound::Source;
+use crate::container::{ID_SIZE, MOST_FINGERPRINTS};
+use crate::feed::{Desk, MOST_ROOM};
+use crate::formats::{Format, FORMATS, RATES, ROWS_PER_FIELD};
+use crate::session::Running;
+
+const MOST_PAYLOAD: usize = 65_535;
+
+pub struct Script {
+    pub feed: Vec<u8>,
+    pub random: Random,
+    /// Packs that were not refused.
+    pub packs: usize,
+    desk: Desk,
+    /// One for each fingerprint, new with every setup and audio restart, as the filters are.
+    sources: Vec<Source>,
+    liveliness: Liveliness,
+}
+
+/// Every pair of format and rate that setup takes.
+pub fn pairs() -> Vec<(u8, u8)> {
+    let all = (0..FORMATS.len()).flat_map(|format| RATES.iter().map(move |rate| (format, rate.code)));
+    let taken = all.filter(|&(format, code)| FORMATS[format].takes_rate(code));
+    taken.map(|(format, code)| (format as u8, code)).collect()
+}
+
+impl Script {
+    pub fn new(mut random: Random) -> Script {
+        let liveliness = Liveliness::new(&mut random);
+        Script { feed: Vec::new(), random, packs: 0, desk: Desk::default(), sources: Vec::new(), liveliness }
+    }
+
+    pub fn running(&self) -> Option<&Running> {
+        self.desk.session.0.as_ref()
+    }
+
+    /// Adds a record and makes its call on the script's own session.
+    pub fn record(&mut self, tag: u8, fixed: &[u8], rest: &[u8]) {
+        let size = fixed.len() + rest.len();
+        assert!(size <= MOST_PAYLOAD);
+        let payload = [fixed, rest].concat();
+        self.feed.push(tag);
+        self.feed.extend((size as u16).to_be_bytes());
+        self.feed.extend(&payload);
+        if (0x10..0x20).contains(&tag) {
+            let told = self.desk.call(tag, &payload);
+            self.packs += usize::from(told.is_ok_and(|line| line.starts_with("pack 0")));
+        }
+        if tag == 0x10 || tag == 0x15 {
+            self.sources = (0..MOST_FINGERPRINTS).map(|_| Source::new(&mut self.random)).collect();
+        }
+    }
+
+    pub fn with_room(&mut self, tag: u8, room: usize, rest: &[u8]) {
+        self.record(tag, &(room as u16).to_be_bytes(), rest);
+    }
+
+    pub fn setup(&mut self, format: u8, rate: u8, mix_types: &[u8]) {
+        self.record(0x10, &[format, rate], mix_types);
+    }
+
+    pub fn line(&mut self, number: u16, line: &[u8]) {
+        self.record(0x11, &number.to_be_bytes(), line);
+    }
+
+    /// The line that the session waits for.
+    pub fn expected_line(&mut self) {
+        let Some(running) = &self.desk.session.0 else { return };
+        if running.picture.rows().len() % ROWS_PER_FIELD == 0 {
+            self.liveliness = Liveliness::new(&mut self.random);
+        }
+        let number = running.picture.expected_line(running.format);
+        let line = picture::next_line(&mut self.random, &self.liveliness, running.format, &running.picture);
+        self.line(number, &line);
+    }
+
+    /// The lines that are left of the frame at hand.
+    pub fn rest_of_frame(&mut self) {
+        while self.running().is_some_and(|running| running.picture.ready().is_none()) {
+            self.expected_line();
+        }
+    }
+
+    /// So many instants for one fingerprint, in as many blocks as payloads need.
+    pub fn sound(&mut self, fingerprint: usize, instants: usize) {
+        let Some(running) = self.running() else { return };
+        let size = running.sounds[fingerprint].instant_size();
+        let mut left = instants;
+        loop {
+            let now = left.min((MOST_PAYLOAD - 1) / size);
+            let block = self.sources[fingerprint].block(&mut self.random, now, size);
+            self.record(0x12, &[fingerprint as u8], &block);
+            left -= now;
+            if left == 0 {
+                break;
+            }
+        }
+    }
+
+    pub fn noise(&mut self, count: usize) -> Vec<u8> {
+        self.random.bytes(count)
+    }
+
+    /// The format at hand, or any for an empty session.
+    pub fn format(&mut self) -> &'static Format {
+        match self.running() {
+            Some(running) => running.format,
+            None => &FORMATS[self.random.below(FORMATS.len())],
+        }
+    }
+
+    /// How long the container due now would be, with an ID of so many bytes.
+    pub fn container_size(&self, id_size: usize) -> usize {
+        let mut trial = self.desk.session.clone();
+        trial.pack(&vec![0; id_size], MOST_ROOM).map_or(5, |container| container.len())
+    }
+
+    pub fn pack(&mut self, room: usize, id_size: usize) {
+        let id = self.random.bytes(id_size);
+        self.with_room(0x13, room, &id);
+    }
+
+    /// A room around the size of what will be written, now and then too short.
+    pub fn room_near(&mut self, size: usize, short_per_cent: usize) -> usize {
+        if self.random.chance(short_per_cent) {
+            return match self.random.below(3) {
+                0 => self.random.below(size.max(1)),
+                1 => 0,
+                _ => size.saturating_sub(1),
+            };
+        }
+        self.random.pick(&[size, size + 1, size.max(255), 300, MOST_ROOM]).max(size)
+    }
+
+    pub fn id_size(&mut self) -> usize {
+        if self.random.chance(35) {
+            ID_SIZE
+        } else {
+            0
+        }
+    }
+}
