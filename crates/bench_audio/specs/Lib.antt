@@ -1,0 +1,2 @@
+-- The definitions: the turns that are measured.
+pub mod Turns

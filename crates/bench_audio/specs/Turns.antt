@@ -1,0 +1,31 @@
+-- The turns that are measured: a block is heard, and bytes are taken and summed.
+use Prim.Native.Nat.{ℕ, zero, suc, _+_, _*_, _%_}
+use mathlib.Core.List.{List}
+use mathlib.Core.Bool.{cond}
+use lib.ListN.{getD}
+use Rattle.fingerprint.specs.declared.Fingerprint.{Fingerprint}
+use Rattle.fingerprint.specs.State.{freshOf, heardOf, holdsOf, takeOf}
+use Rattle.bench_audio.specs.declared.Turn.{Turn}
+
+unfoldable pub byteIn : ℕ → ℕ → ℕ
+byteIn sum b = (sum * 31 + b) % 4294967296
+
+unfoldable pub bytesIn : ℕ → List ℕ → ℕ
+bytesIn sum l =
+    byteIn (byteIn (byteIn (byteIn (byteIn sum (getD l 0 0)) (getD l 1 0)) (getD l 2 0)) (getD l 3 0)) (getD l 4 0)
+
+unfoldable pub dueOf : Fingerprint → ℕ
+dueOf f = cond (holdsOf f 5) 5 4
+
+unfoldable pub nextTurn : ℕ → List ℕ → Turn → Turn
+nextTurn d block t = record {
+  fingerprint = takeOf (heardOf d (t .fingerprint) block) (dueOf (heardOf d (t .fingerprint) block)) .fingerprint;
+  sum = bytesIn (t .sum) (takeOf (heardOf d (t .fingerprint) block) (dueOf (heardOf d (t .fingerprint) block)) .bytes);
+}
+
+unfoldable pub turns : ℕ → ℕ → List ℕ → ℕ → Turn
+turns mix d block zero = record { fingerprint = freshOf mix; sum = 0 }
+turns mix d block (suc n) = nextTurn d block (turns mix d block n)
+
+unfoldable pub sumAfter : ℕ → ℕ → List ℕ → ℕ → ℕ
+sumAfter mix d block rounds = turns mix d block rounds .sum

@@ -1,0 +1,2 @@
+-- The laws of the exports for measuring.
+pub mod Unique

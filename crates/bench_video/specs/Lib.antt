@@ -1,0 +1,2 @@
+-- The definitions of the exports for measuring.
+pub mod Bench

@@ -1,0 +1,66 @@
+// Exports for bench/video.sh.
+ghost use mathlib.Core.Path.{_≡_};
+ghost use lib.ListN.{length};
+ghost use Rattle.sampling.specs.Samples.{sampleDone, sampleOut};
+ghost use Rattle.bench_video.specs.Bench.{valueOf, stepOf, afterLines};
+use picture::Picture;
+use picture::Told;
+
+// The number that sampling a line answers.
+#[no_mangle]
+pub extern "C" fn bench_sample(format: u8, line: &[u8], out: &mut [u8]) -> u8
+    ensures { λ r. ⌜ r ≡ sampleDone format (now (line .entry)) (now (out .entry)) .number ⌝ }
+    ensures { λ _. ⌜ now (out .exit) ≡ sampleOut format (now (line .entry)) (now (out .entry)) ⌝ }
+{
+    let done = sampling::sample_line(format, line, out);
+    done.number
+}
+
+struct After {
+    picture: Picture,
+    sum: u32,
+}
+
+fn value(told: Told) -> u8
+    ensures { λ r. ⌜ r ≡ valueOf told ⌝ }
+{
+    match told {
+        Told::Open => 0,
+        Told::Nothing => 0,
+        Told::Print(v) => v,
+    }
+}
+
+// One line; a frame that is ready is handed out.
+fn step(a: After, format: u8, number: usize, line: &[u8]) -> After
+    ensures { λ r. ⌜ r ≡ stepOf a format number (now (line .entry)) ⌝ }
+{
+    let p = a.picture;
+    let lined = picture::line(p, format, number, line);
+    let q = lined.picture;
+    let told = lined.told;
+    let handed = picture::hand_out(q);
+    let r = handed.picture;
+    After {
+        picture: r,
+        sum: a.sum % 1000000 + value(told) as u32,
+    }
+}
+
+// The lines of these numbers. Two lines are lent, one after the other: two fields in four take the first, the others the second.
+#[no_mangle]
+pub extern "C" fn bench_lines(format: u8, numbers: &[usize], lines: &[u8]) -> u32
+    ensures { λ r. ⌜ r ≡ afterLines format (now (numbers .entry)) (now (lines .entry)) (length (now (numbers .entry))) .sum ⌝ }
+{
+    let p = picture::fresh();
+    let mut a = After { picture: p, sum: 0 };
+    let half = lines.len() / 2;
+    let mut i: usize = 0;
+    while i < numbers.len() {
+        let from = if i / 16 % 4 < 2 { 0 } else { half };
+        let to = from + half;
+        a = step(a, format, numbers[i], &lines[from..to]);
+        i += 1;
+    }
+    a.sum
+}

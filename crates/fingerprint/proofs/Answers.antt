@@ -1,0 +1,91 @@
+-- What a fingerprint answers is what document 01 says of its history.
+use Prim.Native.Nat.{ℕ, zero, suc, _+_, _-_, _*_, _/_, _<_, _≤_}
+use mathlib.Core.Path.{_≡_, refl, sym, ap, ap₂, _∙_}
+use mathlib.Core.List.{List, [], _∷_, _++_}
+use mathlib.Core.Bool.{Bool, true, false, _&&_}
+use native.Mathlib.Nat.{mul-le-mul-right}
+use native.Mathlib.Omega.{arith}
+use lib.Dec.{leb}
+use lib.ListN.{length, getD, take, replicate, length-append, List·getD-append}
+use lib.Seq.{take-suc, getD-take, length-take-le}
+use borrow.Author.Tests.{le-leb, lt-leb}
+use Rattle.sound.proofs.Whole.{by-order}
+use Rattle.sound.proofs.Exact.{bit-one, bit-zero}
+use Rattle.fingerprint.specs.declared.Fingerprint.{Fingerprint}
+use Rattle.fingerprint.specs.State.{newBits, instants, valuesOf, soundNumber, holdsOf, firstBytes, takes, takeOf}
+use Rattle.fingerprint.specs.History.{upTo, bitAt, keptAmong, keptBits, bitsFrom, fromBits, bytesFrom, bitIn, Holds}
+use Rattle.fingerprint.specs.Paper.{soundAnswer, heldAnswer, leaveAnswer, bytesAnswer, Right, AllRight}
+use Rattle.fingerprint.proofs.Bits.{bit, bit-at, byte-is}
+use Rattle.fingerprint.proofs.History.{holds-kept, held-with}
+use Rattle.fingerprint.proofs.Steps.{length-values}
+use Rattle.fingerprint.proofs.Taking.{takes-room}
+
+module _ (mix d : ℕ) (h : List ℕ) (taken : ℕ) (f : Fingerprint) (H : Holds mix d h taken f) where
+  pub sound-paper : (block : List ℕ) → soundNumber d f (length block) ≡ soundAnswer mix d h taken block
+  unfolding soundNumber soundAnswer keptBits valuesOf
+  sound-paper block =
+      let n : ℕ = instants mix (length block) in
+      let e : length (valuesOf mix block ++ h) ≡ n + length h =
+      length-append (valuesOf mix block) h ∙ ap (λ (m : ℕ). m + length h) (length-values mix block 0 n) in
+      let s : f .held + newBits d (f .wait) n ≡ keptAmong d (length (valuesOf mix block ++ h)) - taken =
+      omega (arith, held-with mix d h taken f H n, ap (keptAmong d) e) in
+      rw (H .mixed, s)
+
+  pub holds-paper : (n : ℕ) → holdsOf f n ≡ heldAnswer d h taken n
+  unfolding holdsOf heldAnswer
+  holds-paper n =
+      let e = holds-kept mix d h taken f H in
+      by-order (f .held) (8 * n)
+      (λ l. lt-leb (8 * n) (f .held) l ∙ sym (lt-leb (taken + 8 * n) (keptBits d h) (omega arith)))
+      (λ l. le-leb (8 * n) (f .held) l ∙ sym (le-leb (taken + 8 * n) (keptBits d h) (omega arith)))
+
+  pub takes-paper : (n : ℕ) → takes f n ≡ leaveAnswer d h taken n
+  unfolding takes leaveAnswer
+  takes-paper n = ap (λ (b : Bool). leb n 5 && b) (holds-paper n)
+
+  -- byte b of those held is made of its own samples' bits
+  byte-paper : (b : ℕ) → 8 * b + 8 ≤ f .held → getD (f .bytes) b 0 ≡ fromBits (bitsFrom d h (taken + 8 * b)) 8
+  unfolding bitsFrom
+  byte-paper b l = sym (byte-is (bitsFrom d h (taken + 8 * b)) (getD (f .bytes) b 0) (H .small b) own)
+    where
+      own : (i : ℕ) → i < 8 → bit (getD (f .bytes) b 0) i ≡ bitAt h ((taken + 8 * b + i) * d)
+      own i k =
+          let e : taken + (8 * b + i) ≡ taken + 8 * b + i = omega arith in
+          sym (bit-at (f .bytes) b i k) ∙ (H .bits (8 * b + i) (omega arith) ∙ ap (λ (m : ℕ). bitAt h (m * d)) e)
+
+  bytes-paper : (n : ℕ) → 8 * n ≤ f .held → take n (f .bytes) ≡ bytesFrom d h taken n
+  unfolding bytesFrom
+  bytes-paper zero l = refl
+  bytes-paper (suc n) l =
+      take-suc (f .bytes) n 0 (omega (arith, H .size, H .room))
+      ∙ ap₂ (λ (xs : List ℕ) (x : ℕ). xs ++ (x ∷ [])) (bytes-paper n (omega arith)) (byte-paper n (omega arith))
+
+  pub taken-paper : (n : ℕ) → takeOf f n .bytes ≡ bytesAnswer d h taken n
+  unfolding takeOf bytesAnswer firstBytes
+  taken-paper n = go (takes f n) refl
+    where
+      go : (b : Bool) → takes f n ≡ b → takeOf f n .bytes ≡ bytesAnswer d h taken n
+      go true e = rw (e, ← takes-paper n, e) (ap (λ (xs : List ℕ). xs ++ replicate (5 - n) 0) (bytes-paper n (takes-room f n e .1)))
+      go false e = rw (e, ← takes-paper n, e)
+
+-- ---- demand 3
+
+pub right : (h : List ℕ) (i : ℕ) → Right h i (bitAt h i)
+unfolding bitAt
+right h i = record { one = bit-one (upTo h i); zero = bit-zero (upTo h i) }
+
+module _ (mix d : ℕ) (h : List ℕ) (taken : ℕ) (f : Fingerprint) (H : Holds mix d h taken f) where
+  -- the bits that leave are those that were held
+  left-bit : (n j : ℕ) → takes f n ≡ true → j < 8 * n → bitIn (takeOf f n .bytes) j ≡ bitIn (f .bytes) j
+  unfolding bitIn takeOf firstBytes
+  left-bit n j e l =
+      let r = takes-room f n e in
+      let k : j / 8 < length (take n (f .bytes)) = rw (length-take-le n (f .bytes) (omega (arith, H .size))) (omega arith) in
+      let i : j / 8 < n = omega arith in
+      rw (e, List·getD-append (take n (f .bytes)) (replicate (5 - n) 0) 0 (j / 8) k, getD-take n (f .bytes) (j / 8) 0 i)
+
+  pub all-right : (n : ℕ) → takes f n ≡ true → AllRight d h taken (takeOf f n .bytes) n
+  all-right n e j l =
+      let r = takes-room f n e in
+      let m = mul-le-mul-right {m = taken + j + 1} {n = taken + f .held} d (omega arith) in
+      (omega (arith, H .next, H .soon), rw (left-bit n j e l, H .bits j (omega arith)) (right h ((taken + j) * d)))

@@ -1,0 +1,48 @@
+-- The lines of a field, found by a division.
+use Prim.Native.Nat.{ℕ, zero, suc, _+_, _-_, _*_, _/_, _%_, _≤_, _<_}
+use mathlib.Core.Path.{_≡_, refl, sym, ap, _∙_}
+use mathlib.Core.Bool.{Bool, true, false, _||_, or-true}
+use native.Mathlib.Omega.{arith}
+use native.Mathlib.Nat.{mul-mod-right, mul-div-cancel-left, div-add-mod}
+use lib.Dec.{ltb, eqb}
+use borrow.Author.Tests.{eqb-true, eqb-false, eq-eqb, ne-eqb, ltb-true, ltb-false}
+use Rattle.picture.specs.Lines.{among}
+
+-- the lines from v on are among them, and no others
+pub among-yes : (v step k n m : ℕ) → m < k → n ≡ v + step * m → among v step k n ≡ true
+unfolding among
+among-yes v step zero n m l e = absurd (let z : ⊥ = omega arith in z)
+among-yes v step (suc k) n m l e = go (eqb m k) refl (λ i. among-yes v step k n m i e)
+  where
+    go : (b : Bool) → eqb m k ≡ b → (m < k → among v step k n ≡ true) → (eqb n (v + step * k) || among v step k n) ≡ true
+    go true x r = rw (eq-eqb n (v + step * k) (e ∙ ap (λ (y : ℕ). v + step * y) (eqb-true m k x))) refl
+    go false x r = let q : (m ≡ k → ⊥) = eqb-false m k x in rw (r (omega arith)) (or-true (eqb n (v + step * k)))
+
+among-no : (v step k n : ℕ) → ((m : ℕ) → m < k → n ≡ v + step * m → ⊥) → among v step k n ≡ false
+unfolding among
+among-no v step zero n h = refl
+among-no v step (suc k) n h = rw (ne-eqb n (v + step * k) (h k (omega arith)), among-no v step k n (λ m l. h m (omega arith))) refl
+
+-- the three cases of the code
+module _ (v step n : ℕ) where
+  pub none-below : n < v → among v step 16 n ≡ false
+  none-below h = among-no v step 16 n (λ m l e. omega arith)
+
+  pub none-between : v ≤ n → ((n - v) % step ≡ 0 → ⊥) → among v step 16 n ≡ false
+  none-between h d =
+      among-no v step 16 n (λ m l e.
+      let x : n - v ≡ step * m = omega arith in
+      d (ap (λ (y : ℕ). y % step) x ∙ mul-mod-right step m))
+
+  pub by-quotient : 0 < step → v ≤ n → (n - v) % step ≡ 0 → ltb ((n - v) / step) 16 ≡ among v step 16 n
+  by-quotient p h z = go (ltb ((n - v) / step) 16) refl
+    where
+      go : (b : Bool) → ltb ((n - v) / step) 16 ≡ b → b ≡ among v step 16 n
+      go true x =
+          let a : n ≡ v + step * ((n - v) / step) = omega (arith, div-add-mod (n - v) step) in
+          sym (among-yes v step 16 n ((n - v) / step) (ltb-true _ _ x) a)
+      go false x =
+          sym (among-no v step 16 n (λ m l e.
+          let y : n - v ≡ step * m = omega arith in
+          let d : (n - v) / step ≡ m = ap (λ (w : ℕ). w / step) y ∙ mul-div-cancel-left m p in
+          omega (arith, ltb-false ((n - v) / step) 16 x)))

@@ -1,0 +1,54 @@
+-- Every field of any calls has 960 bytes, so that no byte is left out of a comparison.
+use Prim.Native.Nat.{ℕ, zero, suc, _*_, _%_, _≤_}
+use mathlib.Core.Path.{_≡_, refl}
+use mathlib.Core.List.{List, [], _∷_}
+use native.Mathlib.Omega.{arith}
+use lib.Dec.{eqb}
+use lib.ListN.{length, take, length-append}
+use lib.Seq.{length-take-le}
+use borrow.Author.Tests.{eqb-true}
+use Rattle.laws.proofs.Tests.{chosen}
+use Rattle.sampling.specs.Formats.{rowOf}
+use Rattle.sampling.proofs.Filled.{sixty}
+use Rattle.picture.specs.History.{joined, fields, takes, linesAfter}
+use Rattle.picture.specs.Calls.{Call, line, restart, hand-out, Event, linesAt, lines}
+
+-- lists of n bytes each
+pub data Each (n : ℕ) : List (List ℕ) → Type 0 where
+  none : Each n []
+  more : {l : List ℕ} {ls : List (List ℕ)} → length l ≡ n → Each n ls → Each n (l ∷ ls)
+
+taken : {n : ℕ} {ls : List (List ℕ)} (k : ℕ) → Each n ls → Each n (take k ls)
+taken zero a = none
+taken (suc k) none = none
+taken (suc k) (more e a) = more e (taken k a)
+
+joined-size : {ls : List (List ℕ)} → Each 60 ls → length (joined ls) ≡ 60 * length ls
+unfolding joined
+joined-size none = refl
+joined-size (more e a) = simp length-append (omega (arith, e, joined-size a))
+
+pub fields-sized : {ls : List (List ℕ)} → Each 60 ls → Each 960 (fields ls)
+unfolding fields
+fields-sized none = none
+fields-sized (more {l} {ls} e a) =
+    chosen (Each 960) (eqb (suc (length ls) % 16) 0) _ _
+    (λ z.
+    let h : 16 ≤ length (l ∷ ls) = omega (arith, eqb-true (suc (length ls) % 16) 0 z) in
+    let k : length (joined (take 16 (l ∷ ls))) ≡ 960 = omega (arith, joined-size (taken 16 (more {l = l} {ls = ls} e a)), length-take-le 16 (l ∷ ls) h) in
+    more k (fields-sized a))
+    (λ z. fields-sized a)
+
+lines-sized : (f : ℕ) (es : List Event) → Each 60 (lines f es)
+unfolding lines linesAt linesAfter
+lines-sized f [] = none
+lines-sized f (e ∷ es) = go (e .call) (lines-sized f es)
+  where
+    go : (c : Call) → Each 60 (lines f es) → Each 60 (linesAt f c (e .answer) (lines f es))
+    go (line n b) a =
+        chosen (Each 60) (takes f n (e .answer .number)) _ _ (λ t. more (sixty (rowOf f) b) a) (λ t. a)
+    go restart a = none
+    go hand-out a = a
+
+pub fields-960 : (f : ℕ) (es : List Event) → Each 960 (fields (lines f es))
+fields-960 f es = fields-sized (lines-sized f es)

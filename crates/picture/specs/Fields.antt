@@ -1,0 +1,41 @@
+-- A field against the second preceding one (01, "Video"; 000, 5.2.3.1 and 5.2.3.2). A field is a list of 960 bytes.
+use Prim.Native.Nat.{ℕ, _+_, _-_, _/_}
+use mathlib.Core.Bool.{Bool, true, false, cond}
+use mathlib.Core.List.{List, [], _∷_}
+use lib.Dec.{ltb, leb}
+use Rattle.picture.specs.declared.Told.{Told}
+use Rattle.picture.specs.declared.Told.the-variants.{Open, Nothing, Print}
+
+-- "A pixel is changed if the two differ by 32 or more, either way": of the two differences one is the distance and the other is 0
+unfoldable pub changedBy : ℕ → ℕ → Bool
+changedBy x y = leb 32 (x - y + (y - x))
+
+-- the count of changed pixels
+unfoldable pub changesIn : List ℕ → List ℕ → ℕ
+changesIn [] g = 0
+changesIn (x ∷ f) [] = 0
+changesIn (x ∷ f) (y ∷ g) = cond (changedBy x y) 1 0 + changesIn f g
+
+-- "the count of changed pixels divided by 4, rounded down"
+unfoldable pub fingerprintOf : List ℕ → List ℕ → ℕ
+fingerprintOf f g = changesIn f g / 4
+
+-- what the end of a field tells, with so many fields held before it, the second preceding one being given:
+-- "The first two fields after setup or video restart have no predecessor and give no fingerprint"
+unfoldable pub toldBy : ℕ → List ℕ → List ℕ → Told
+toldBy held field older = cond (ltb held 2) Nothing (Print (fingerprintOf field older))
+
+-- how many fields are held once one more has ended
+unfoldable pub heldAfter : ℕ → ℕ
+heldAfter held = cond (ltb held 2) (held + 1) 2
+
+-- 01's values of what a line tells (its number is 0), and whether its field ended
+unfoldable pub toldValues : Told → List ℕ
+toldValues Open = []
+toldValues Nothing = []
+toldValues (Print v) = v ∷ []
+
+unfoldable pub toldEnded : Told → Bool
+toldEnded Open = false
+toldEnded Nothing = true
+toldEnded (Print v) = true

@@ -1,0 +1,34 @@
+-- The mean of n bytes is a byte: once, over the taps.
+use Prim.Native.Nat.{ℕ, zero, suc, _+_, _*_, _/_, _%_, _≤_, _<_}
+use mathlib.Core.Path.{_≡_}
+use mathlib.Core.List.{List}
+use native.Mathlib.Omega.{arith}
+use native.Mathlib.Numerals.{add-one}
+use native.Mathlib.Nat.{div-lt-iff-lt-mul, div-add-mod, mod-lt, mul-add}
+use Rattle.sampling.specs.Samples.{sampleAt, tapSum, meanOf}
+
+pub sample-small : (line : List ℕ) (s : ℕ) → sampleAt line s < 256
+unfolding sampleAt
+sample-small line s = omega arith
+
+pub sum-more : (line : List ℕ) (s n : ℕ) → tapSum line s (n + 1) ≡ tapSum line s n + sampleAt line (s + n)
+unfolding tapSum
+sum-more line s n = rw (add-one n)
+
+pub sum-small : (line : List ℕ) (s n : ℕ) → tapSum line s n ≤ 255 * n
+unfolding tapSum
+sum-small line s zero = omega arith
+sum-small line s (suc n) = omega (arith, sum-small line s n, sample-small line (s + n))
+
+pub mean-small : (line : List ℕ) (s n : ℕ) → 0 < n → meanOf line s n < 256
+unfolding meanOf
+mean-small line s n p = div-lt-iff-lt-mul p .1 (omega (arith, sum-small line s n))
+
+-- it is the floor of the mean
+pub mean-floor : (line : List ℕ) (s n : ℕ) → 0 < n → (n * meanOf line s n ≤ tapSum line s n) × (tapSum line s n < n * (meanOf line s n + 1))
+unfolding meanOf
+mean-floor line s n p =
+    let t = tapSum line s n in
+    let e : n * (t / n) + t % n ≡ t = div-add-mod t n in
+    let l : t % n < n = mod-lt t p in
+    (omega arith, rw mul-add (omega arith))

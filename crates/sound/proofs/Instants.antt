@@ -1,0 +1,106 @@
+-- An instant's samples, their weighted sum and its value.
+use Prim.Native.Nat.{ℕ, zero, suc, _+_, _-_, _*_, _≤_}
+use mathlib.Core.Path.{_≡_, refl, sym, ap, ap₂, _∙_}
+use mathlib.Core.List.{List, [], _∷_, _++_, map}
+use native.Mathlib.Nat.{zero-div, mul-zero, add-assoc, add-zero, zero-add}
+use native.Mathlib.Omega.{arith}
+use lib.Dec.{eqb}
+use lib.IntN.{pos, subℕ, _+ℤ_}
+use lib.ListN.{length, getD, drop, replicate, length-drop, List·getD-eq-default}
+use lib.Seq.{sets, getD-drop}
+use borrow.Author.Tests.{ne-eqb}
+use Rattle.laws.specs.Calls.{over}
+use Rattle.laws.proofs.Lists.{sets-over}
+use Rattle.laws.proofs.Tests.{chosen}
+use Rattle.sound.specs.Mix.{signed, lowered, floor, pseudoAbsolute, sampleAt, samplesAt, weighted, weights, divisor, mixed, instantBytes, instantValue}
+use Rattle.sound.proofs.Whole.{sub-add, sub-mul}
+
+-- the sum of the products of two lists
+abbrev pub dot : List ℕ → List ℕ → ℕ
+dot [] xs = 0
+dot (w ∷ ws) [] = 0
+dot (w ∷ ws) (x ∷ xs) = w * x + dot ws xs
+
+abbrev pub biases : List ℕ → List ℕ
+biases xs = map (λ (x : ℕ). 32768) xs
+
+pub weighted-raised : (ws xs : List ℕ) → weighted ws (map lowered xs) ≡ subℕ (dot ws xs) (dot ws (biases xs))
+unfolding weighted lowered
+weighted-raised [] xs = refl
+weighted-raised (w ∷ ws) [] = refl
+weighted-raised (w ∷ ws) (x ∷ xs) =
+    ap₂ _+ℤ_ (sub-mul w x 32768) (weighted-raised ws xs) ∙ sub-add (w * x) (w * 32768) (dot ws xs) (dot ws (biases xs))
+
+-- the mix of a listed type, from its raised samples, their weighted sum and the bias of that sum
+pub mix-raised : (mix : ℕ) (block : List ℕ) (at : ℕ) (xs : List ℕ) (s b : ℕ)
+    → map lowered xs ≡ samplesAt block at (length (weights mix)) → s ≡ dot (weights mix) xs → b ≡ dot (weights mix) (biases xs)
+    → floor (subℕ s b) (divisor mix) ≡ mixed mix block at
+unfolding mixed
+mix-raised mix block at xs s b e p q = rw (← e, weighted-raised, p, q)
+
+-- the five samples of an instant, each at its own place
+pub five-samples : (block : List ℕ) (at : ℕ) → samplesAt block at 5
+    ≡ sampleAt block at ∷ sampleAt block (at + 2) ∷ sampleAt block (at + 4) ∷ sampleAt block (at + 6) ∷ sampleAt block (at + 8) ∷ []
+unfolding samplesAt
+five-samples block at = simp add-assoc
+
+-- a(i), by the mix type
+pub value-of : (mix k : ℕ) (block : List ℕ) (at m r : ℕ) → mix ≡ k → r ≡ pseudoAbsolute (signed m) → signed m ≡ mixed k block at → r ≡ instantValue mix block at
+unfolding instantValue
+value-of mix k block at m r e f g = f ∙ ap pseudoAbsolute (g ∙ ap (λ (j : ℕ). mixed j block at) (sym e))
+
+pub bytes-of : (mix k : ℕ) → mix ≡ k → instantBytes mix ≡ instantBytes k
+bytes-of mix k e = ap instantBytes e
+
+pub few-bytes : (mix : ℕ) → instantBytes mix ≤ 10
+unfolding instantBytes weights
+few-bytes mix =
+    chosen (λ (ws : List ℕ). 2 * length ws ≤ 10) (eqb mix 1) _ _ (λ e. omega arith)
+    (λ e. chosen (λ (ws : List ℕ). 2 * length ws ≤ 10) (eqb mix 2) _ _ (λ f. omega arith)
+    (λ f. chosen (λ (ws : List ℕ). 2 * length ws ≤ 10) (eqb mix 5) _ _ (λ g. omega arith) (λ g. omega arith)))
+
+pub not-listed : (mix : ℕ) (block : List ℕ) (at : ℕ) → (mix ≡ 1 → ⊥) → (mix ≡ 2 → ⊥) → (mix ≡ 5 → ⊥) → 0 ≡ instantValue mix block at
+unfolding instantValue mixed weights divisor weighted floor pseudoAbsolute
+not-listed mix block at x y z = simp (ne-eqb mix 1 x, ne-eqb mix 2 y, ne-eqb mix 5 z)
+
+-- past the block all is silent
+past-samples : (ws block : List ℕ) (at : ℕ) → length block ≤ at → weighted ws (samplesAt block at (length ws)) ≡ pos 0
+unfolding weighted samplesAt sampleAt signed
+past-samples [] block at h = refl
+past-samples (w ∷ ws) block at h =
+    let g : length block ≤ at + 1 = omega arith in
+    rw (List·getD-eq-default block 0 h, List·getD-eq-default block 0 g, past-samples ws block (at + 2) (omega arith)) (simp mul-zero)
+
+pub past-value : (mix : ℕ) (block : List ℕ) (at : ℕ) → length block ≤ at → 0 ≡ instantValue mix block at
+unfolding instantValue mixed floor pseudoAbsolute
+past-value mix block at h = rw (past-samples (weights mix) block at h) (sym (zero-div (divisor mix)))
+
+-- the same bytes give the same samples, wherever they lie
+same-samples : (b c : List ℕ) (p q n : ℕ) → ((k : ℕ) → getD b (p + k) 0 ≡ getD c (q + k) 0) → samplesAt b p n ≡ samplesAt c q n
+unfolding samplesAt sampleAt
+same-samples b c p q zero e = refl
+same-samples b c p q (suc n) e =
+    let e0 : getD b p 0 ≡ getD c q 0 = simp add-zero at (e 0) in
+    rw (e0, e 1, same-samples b c (p + 2) (q + 2) n (λ k. rw (add-assoc p 2 k, add-assoc q 2 k) (e (2 + k))))
+
+-- zeros are 0 at every place, and past their end
+pub getD-zeros : (m i : ℕ) → _≡_ {A = ℕ} (getD (replicate m 0) i 0) 0
+getD-zeros zero i = refl
+getD-zeros (suc m) zero = refl
+getD-zeros (suc m) (suc i) = getD-zeros m i
+
+-- an instant cut off by the block's end, copied out before zeros
+pub cut-value : (mix : ℕ) (block : List ℕ) (at : ℕ) → at ≤ length block → length block - at ≤ 10
+    → instantValue mix (sets (replicate 10 0) 0 (drop at block)) 0 ≡ instantValue mix block at
+unfolding instantValue mixed over
+cut-value mix block at h k =
+    let d : length (drop at block) ≤ length (replicate {A = ℕ} 10 0) = simp length-drop k in
+    rw (sets-over (drop at block) (replicate 10 0) d, same-samples (drop at block ++ drop (length (drop at block)) (replicate 10 0)) block 0 at (length (weights mix)) same)
+  where
+    tail : (xs : List ℕ) (n i : ℕ) → getD (xs ++ drop n (replicate 10 0)) i 0 ≡ getD xs i 0
+    tail [] n i = getD-drop n (replicate 10 0) i 0 ∙ getD-zeros 10 (n + i)
+    tail (x ∷ xs) n zero = refl
+    tail (x ∷ xs) n (suc i) = tail xs n i
+
+    same : (k : ℕ) → getD (drop at block ++ drop (length (drop at block)) (replicate 10 0)) (0 + k) 0 ≡ getD block (at + k) 0
+    same k = rw zero-add (tail (drop at block) (length (drop at block)) k ∙ getD-drop at block k 0)

@@ -1,0 +1,8 @@
+-- The laws and theorems; a function's own proof stands in the folder of its name.
+pub mod Whole
+pub mod Rounding
+pub mod Instants
+pub mod Meaning
+pub mod Exact
+pub mod Figures
+pub mod Unique

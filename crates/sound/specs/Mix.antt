@@ -1,0 +1,63 @@
+-- The mix of one instant, over the whole numbers, and a(i), its pseudo-absolute value (01, Audio; 000, 5.3.1 and 5.3.2).
+use Prim.Native.Nat.{ℕ, zero, suc, _+_, _*_, _/_}
+use mathlib.Core.List.{List, [], _∷_}
+use mathlib.Core.Bool.{Bool, cond}
+use lib.IntN.{ℤ, pos, negsuc, _+ℤ_, _-ℤ_, _*ℤ_}
+use lib.Dec.{ltb, eqb}
+use lib.ListN.{length, getD}
+
+-- 16 bits as a signed number
+unfoldable pub signed : ℕ → ℤ
+signed w = cond (ltb w 32768) (pos w) (pos w -ℤ pos 65536)
+
+-- "Samples are signed 16-bit, low byte first": the one at a place of a block. Bytes beyond the block read as 0
+unfoldable pub sampleAt : List ℕ → ℕ → ℤ
+sampleAt block at = signed (getD block at 0 + 256 * getD block (at + 1) 0)
+
+-- "interleaved": n samples from a place on
+unfoldable pub samplesAt : List ℕ → ℕ → ℕ → List ℤ
+samplesAt block at zero = []
+samplesAt block at (suc n) = sampleAt block at ∷ samplesAt block (at + 2) n
+
+-- "Mix type 1 is mono; type 2 is L, R; type 5 is L, R, C, Ls, Rs": the weight of each channel; no other type is listed
+unfoldable pub weights : ℕ → List ℕ
+weights mix =
+    cond (eqb mix 1) (1 ∷ [])
+    (cond (eqb mix 2) (7071 ∷ 7071 ∷ [])
+    (cond (eqb mix 5) (7071 ∷ 7071 ∷ 10000 ∷ 5000 ∷ 5000 ∷ []) []))
+
+-- and what their sum is divided by
+unfoldable pub divisor : ℕ → ℕ
+divisor mix = cond (eqb mix 1) 1 (cond (eqb mix 2) 20000 (cond (eqb mix 5) 40000 1))
+
+-- the bytes of one instant: 2, 4 or 10
+unfoldable pub instantBytes : ℕ → ℕ
+instantBytes mix = 2 * length (weights mix)
+
+-- each sample times its channel's weight, summed
+unfoldable pub weighted : List ℕ → List ℤ → ℤ
+weighted [] xs = pos 0
+weighted (w ∷ ws) [] = pos 0
+weighted (w ∷ ws) (x ∷ xs) = pos w *ℤ x +ℤ weighted ws xs
+
+-- z / d, "rounded down towards minus infinity": -(n + 1) gives -(n / d + 1). `proofs.Meaning.floor-is` says what it is
+unfoldable pub floor : ℤ → ℕ → ℤ
+floor (pos n) d = pos (n / d)
+floor (negsuc n) d = negsuc (n / d)
+
+-- the mix of the instant whose bytes start at a place of a block
+unfoldable pub mixed : ℕ → List ℕ → ℕ → ℤ
+mixed mix block at = floor (weighted (weights mix) (samplesAt block at (length (weights mix)))) (divisor mix)
+
+-- "A negative mix m then becomes -m-1": m = -(n + 1) gives n
+unfoldable pub pseudoAbsolute : ℤ → ℕ
+pseudoAbsolute (pos n) = n
+pseudoAbsolute (negsuc n) = n
+
+-- a(i), of the instant whose bytes start at a place of a block
+unfoldable pub instantValue : ℕ → List ℕ → ℕ → ℕ
+instantValue mix block at = pseudoAbsolute (mixed mix block at)
+
+-- a sample that is held 32,768 too high
+unfoldable pub lowered : ℕ → ℤ
+lowered s = pos s -ℤ pos 32768

@@ -1,0 +1,137 @@
+// One instant of sound: its mix, its pseudo-absolute value, and the two filters (01, Audio; 000, 5.3.1 to 5.3.4).
+ghost use mathlib.Core.Path.{_≡_};
+ghost use Prim.Native.Nat.{_+_, _*_, _≤_, _<_};
+ghost use lib.ListN.{length};
+ghost use lib.IntN.{subℕ};
+ghost use Rattle.sound.specs.Mix.{signed, lowered, floor, pseudoAbsolute, sampleAt, mixed, instantBytes, instantValue};
+ghost use Rattle.sound.specs.Filter.{envelopeNext, meanNext};
+
+// The bytes of one instant: two for each channel; none for a mix type that is not listed.
+pub fn instant_bytes(mix: u8) -> usize
+    ensures { λ r. ⌜ r ≡ instantBytes mix ⌝ }
+{
+    if mix == 1 {
+        return 2;
+    }
+    if mix == 2 {
+        return 4;
+    }
+    if mix == 5 {
+        return 10;
+    }
+    0
+}
+
+// A sample from its two bytes, 32,768 too high, so that every sum of samples is unsigned.
+fn raised(lo: u8, hi: u8) -> u16
+    ensures { λ r. ⌜ lowered r ≡ signed (lo + 256 * hi) ⌝ }
+{
+    (((lo as u32) + 256 * (hi as u32) + 32768) % 65536) as u16
+}
+
+// The raised sample at a place of a block.
+fn sample(block: &[u8], at: usize) -> u32
+    requires { ⌜ at + 2 ≤ length (now block) ⌝ }
+    ensures { λ r. ⌜ (r < 65536) × (lowered r ≡ sampleAt (now (block .entry)) at) ⌝ }
+{
+    raised(block[at], block[at + 1]) as u32
+}
+
+// The sum, which is bias too high, divided by d, as the 16 bits of a signed sample. This alone knows the rounding: down, towards minus infinity.
+// The quotient is worked out 32,768 too high, and so is never negative.
+fn rounded(sum: u32, bias: u32, d: u32) -> u16
+    requires { ⌜ (0 < d) × (d ≤ 40000) × (bias ≤ 32768 * d) × (sum < bias + 32768 * d) ⌝ }
+    ensures { λ r. ⌜ signed r ≡ floor (subℕ sum bias) d ⌝ }
+{
+    let q = (sum + (32768 * d - bias)) / d;
+    ((q + 32768) % 65536) as u16
+}
+
+fn mono(block: &[u8], at: usize) -> u16
+    requires { ⌜ at + 2 ≤ length (now block) ⌝ }
+    ensures { λ r. ⌜ signed r ≡ mixed 1 (now (block .entry)) at ⌝ }
+{
+    rounded(sample(block, at), 32768, 1)
+}
+
+fn stereo(block: &[u8], at: usize) -> u16
+    requires { ⌜ at + 4 ≤ length (now block) ⌝ }
+    ensures { λ r. ⌜ signed r ≡ mixed 2 (now (block .entry)) at ⌝ }
+{
+    let l = sample(block, at);
+    let r = sample(block, at + 2);
+    rounded(7071 * l + 7071 * r, 463405056, 20000)
+}
+
+fn five(block: &[u8], at: usize) -> u16
+    requires { ⌜ at + 10 ≤ length (now block) ⌝ }
+    ensures { λ r. ⌜ signed r ≡ mixed 5 (now (block .entry)) at ⌝ }
+{
+    let l = sample(block, at);
+    let r = sample(block, at + 2);
+    let c = sample(block, at + 4);
+    let ls = sample(block, at + 6);
+    let rs = sample(block, at + 8);
+    rounded(
+        7071 * l + 7071 * r + 10000 * c + 5000 * ls + 5000 * rs,
+        1118765056,
+        40000,
+    )
+}
+
+// A negative mix m, here its 16 bits, becomes -m-1.
+fn pseudo_absolute(m: u16) -> u16
+    ensures { λ r. ⌜ r ≡ pseudoAbsolute (signed m) ⌝ }
+{
+    if m < 32768 {
+        return m;
+    }
+    let negated = 65536 - (m as u32);
+    (negated - 1) as u16
+}
+
+// a(i), of an instant that lies whole in a block.
+fn whole_value(mix: u8, block: &[u8], at: usize) -> u16
+    requires { ⌜ at + instantBytes mix ≤ length (now block) ⌝ }
+    ensures { λ r. ⌜ r ≡ instantValue mix (now (block .entry)) at ⌝ }
+{
+    if mix == 1 {
+        return pseudo_absolute(mono(block, at));
+    }
+    if mix == 2 {
+        return pseudo_absolute(stereo(block, at));
+    }
+    if mix == 5 {
+        return pseudo_absolute(five(block, at));
+    }
+    0
+}
+
+// a(i), of the instant whose bytes start at a place of a block. Bytes beyond the block read as 0; a mix type that is not listed gives 0.
+pub fn instant_value(mix: u8, block: &[u8], at: usize) -> u16
+    ensures { λ r. ⌜ r ≡ instantValue mix (now (block .entry)) at ⌝ }
+{
+    if block.len() < at {
+        return 0;
+    }
+    if instant_bytes(mix) <= block.len() - at {
+        return whole_value(mix, block, at);
+    }
+    let mut instant = [0u8; 10];
+    laws::copy_at(&block[at..], &mut instant, 0);
+    whole_value(mix, &instant, 0)
+}
+
+// E(i) from E(i-1) and a(i). What leaves is subtracted first, so that the sum fits whatever stood before.
+pub fn envelope(e: u32, a: u16) -> u32
+    ensures { λ r. ⌜ r ≡ envelopeNext e a ⌝ }
+{
+    8 * (a as u32) + (e - e / 1024)
+}
+
+// M(i) from M(i-1) and a(i).
+pub fn mean(m: u32, a: u16) -> u32
+    ensures { λ r. ⌜ r ≡ meanNext m a ⌝ }
+{
+    (a as u32) + (m - m / 8192)
+}
