@@ -1,0 +1,173 @@
+-- The outcome of each call, case by case.
+use Prim.Native.Nat.{ℕ, _≤_, _<_}
+use mathlib.Core.List.{List, []}
+use mathlib.Core.Path.{_≡_, refl, ap, sym, _∙_}
+use mathlib.Core.Bool.{Bool, true, false, cond, _&&_, _||_}
+use native.Mathlib.Omega.{arith}
+use borrow.Author.Tests.{leb-true, le-leb, lt-leb, eq-eqb, ne-eqb}
+use lib.Dec.{leb, eqb}
+use lib.ListN.{length, getD}
+use Rattle.laws.proofs.Tests.{both, chosen}
+use Rattle.laws.specs.declared.Done.{Done}
+use Rattle.rates.specs.Rates.{pairsWith, intervalOf}
+use Rattle.rates.specs.Cadence.{placeAfter}
+use Rattle.picture.specs.declared.Told.the-variants.{Open}
+use Rattle.picture.specs.declared.Picture.{Picture}
+use Rattle.picture.specs.declared.Lined as picture-lined
+use Rattle.picture.specs.Pictures.{restarted, isReady}
+use Rattle.picture.specs.Pictures as picture
+use Rattle.fingerprint.specs.declared.Fingerprint.{Fingerprint}
+use Rattle.fingerprint.specs.State.{heardOf, soundNumber}
+use Rattle.container.specs.declared.Contents.{Contents}
+use Rattle.container.specs.Writing.{writeDone, writeOut}
+use Rattle.session.specs.declared.Settings.{Settings}
+use Rattle.session.specs.declared.Session.{Session}
+use Rattle.session.specs.Prints.{allListed, each, cleared}
+use Rattle.session.specs.Session.{isSet, setupNumber, setUpWith, emptySession, setupOf, withPicture, lineOf, noPrint, withPrint, soundedNumber, soundOf, videoRestarted, audioAnew, audioRestarted}
+use Rattle.session.specs.Packing.{hasAudio, spokenOf, placeFrom, contentsOf, sessionAfter, packNumber, refusedWith, packOf, packOut}
+
+-- settings of an accepted setup have at most 32 fingerprints
+pub set-count : (s : Settings) → isSet s ≡ true → s .count ≤ 32
+unfolding isSet
+set-count s e =
+    let p = both (pairsWith (s .format) (s .rate)) _ e in
+    leb-true (s .count) 32 (both (leb 1 (s .count)) (leb (s .count) 32) (p .1) .1)
+
+-- ---- Setup
+
+module _ (format rate : ℕ) (mixes : List ℕ) where
+  pub setup-0 : setupNumber format rate mixes ≡ 0 → record { number = 0; session = setUpWith format rate (length mixes) mixes } ≡ setupOf format rate mixes
+  unfolding setupOf
+  setup-0 e = rw (eq-eqb (setupNumber format rate mixes) 0 e)
+
+  pub setup-1 : (setupNumber format rate mixes ≡ 0 → ⊥) → record { number = setupNumber format rate mixes; session = emptySession } ≡ setupOf format rate mixes
+  unfolding setupOf
+  setup-1 e = rw (ne-eqb (setupNumber format rate mixes) 0 e)
+
+  -- an accepted setup has at most 32 mix types
+  pub setup-few : setupNumber format rate mixes ≡ 0 → length mixes ≤ 32
+  unfolding setupNumber
+  setup-few e = go (pairsWith format rate) (leb 1 (length mixes)) (leb (length mixes) 32) refl e
+    where
+      go : (a b d : Bool) → leb (length mixes) 32 ≡ d → _≡_ {A = ℕ} (cond a (cond b (cond d (cond (allListed mixes) 0 1) 1) 1) 1) 0 → length mixes ≤ 32
+      go a b true p h = leb-true (length mixes) 32 p
+      go true true false p h = absurd (let z : ⊥ = omega arith in z)
+      go true false false p h = absurd (let z : ⊥ = omega arith in z)
+      go false b false p h = absurd (let z : ⊥ = omega arith in z)
+
+module _ (s : Session) where
+  abbrev set : Bool
+  set = isSet (s .programme .settings)
+
+  -- ---- Line
+
+  pub line-1 : set ≡ false → (n : ℕ) (b : List ℕ) → record { number = 1; told = Open; session = s } ≡ lineOf s n b
+  unfolding lineOf
+  line-1 e n b = rw e
+
+  pub line-set : set ≡ true → (n : ℕ) (b : List ℕ) (r : picture-lined.Lined) → r ≡ picture.lineOf (s .programme .picture) (s .programme .settings .format) n b
+      → record { number = r .number; told = r .told; session = withPicture s (r .picture) } ≡ lineOf s n b
+  unfolding lineOf
+  line-set e n b r p = rw (e, ← p)
+
+  -- ---- Sound
+
+  pub sound-1 : set ≡ false → (k : ℕ) (b : List ℕ) → record { number = 1; session = s } ≡ soundOf s k b
+  unfolding soundOf soundedNumber
+  sound-1 e k b = rw e
+
+  module _ (e : set ≡ true) (k : ℕ) (b : List ℕ) where
+    pub sound-7 : s .programme .settings .count ≤ k → record { number = 7; session = s } ≡ soundOf s k b
+    unfolding soundOf soundedNumber
+    sound-7 h = rw (e, le-leb (s .programme .settings .count) k h)
+
+    module _ (h : k < s .programme .settings .count) (d : ℕ) (p : d ≡ intervalOf (s .programme .settings .rate)) where
+      judged : soundNumber d (getD (s .prints) k noPrint) (length b) ≡ soundedNumber s k (length b)
+      unfolding soundedNumber
+      judged = rw (e, lt-leb (s .programme .settings .count) k h, p)
+
+      pub sound-8-9 : (n : ℕ) → n ≡ soundNumber d (getD (s .prints) k noPrint) (length b) → (n ≡ 0 → ⊥) → record { number = n; session = s } ≡ soundOf s k b
+      unfolding soundOf
+      sound-8-9 n q f = let z : n ≡ soundedNumber s k (length b) = q ∙ judged in rw (← z, ne-eqb n 0 f)
+
+      pub sound-0 : soundNumber d (getD (s .prints) k noPrint) (length b) ≡ 0 → (f : Fingerprint) → f ≡ heardOf d (getD (s .prints) k noPrint) b
+          → record { number = 0; session = withPrint s k f } ≡ soundOf s k b
+      unfolding soundOf
+      sound-0 q f r = rw (← judged, q, ← p, ← r)
+
+  -- ---- restarts
+
+  pub video-same : set ≡ false → s ≡ videoRestarted s
+  unfolding videoRestarted
+  video-same e = rw e
+
+  pub video-anew : set ≡ true → (p : Picture) → p ≡ restarted (s .programme .picture) → withPicture s p ≡ videoRestarted s
+  unfolding videoRestarted
+  video-anew e p q = rw (e, q)
+
+  pub audio-same : set ≡ false → s ≡ audioRestarted s
+  unfolding audioRestarted
+  audio-same e = rw e
+
+  pub audio-anew : set ≡ true → audioAnew s ≡ audioRestarted s
+  unfolding audioRestarted
+  audio-anew e = rw e
+
+  -- ---- Pack
+
+  pub spoken-all : hasAudio s ≡ true → s .programme .settings .count ≡ spokenOf s
+  unfolding spokenOf
+  spoken-all e = rw e
+
+  pub spoken-none : hasAudio s ≡ false → 0 ≡ spokenOf s
+  unfolding spokenOf
+  spoken-none e = rw e
+
+  pub spoken-most : s .programme .settings .count ≤ 32 → spokenOf s ≤ 32
+  unfolding spokenOf
+  spoken-most h = chosen (λ (n : ℕ). n ≤ 32) (hasAudio s) _ _ (λ _. h) (λ _. omega arith)
+
+  pub place-moves : hasAudio s ≡ true → placeAfter (s .programme .settings .rate) (s .programme .place) ≡ placeFrom s
+  unfolding placeFrom
+  place-moves e = rw e
+
+  pub place-stays : hasAudio s ≡ false → s .programme .place ≡ placeFrom s
+  unfolding placeFrom
+  place-stays e = rw e
+
+  module _ (a : set ≡ true) (b : isReady (s .programme .picture) ≡ true) (n : ℕ) where
+    pub pack-fits : (eqb n 0 || eqb n 20) ≡ true → 0 ≡ packNumber s n
+    unfolding packNumber
+    pack-fits e = rw (a, b, e)
+
+    pub pack-11 : (eqb n 0 || eqb n 20) ≡ false → 11 ≡ packNumber s n
+    unfolding packNumber
+    pack-11 e = rw (a, b, e)
+
+  module _ (id out : List ℕ) where
+    pub pack-refused : (packNumber s (length id) ≡ 0 → ⊥)
+        → (refusedWith (packNumber s (length id)) s ≡ packOf s id (length out)) × (out ≡ packOut s id out)
+    unfolding packOf packOut
+    pack-refused f = let e = ne-eqb (packNumber s (length id)) 0 f in (rw e, rw e)
+
+    module _ (e : packNumber s (length id) ≡ 0) (d : Done) (p : d ≡ writeDone (contentsOf s id) (length out)) where
+      pub pack-short : (d .number ≡ 0 → ⊥) → (refusedWith (d .number) s ≡ packOf s id (length out)) × (writeOut (contentsOf s id) out ≡ packOut s id out)
+      unfolding packOf packOut
+      pack-short f = let z = eq-eqb (packNumber s (length id)) 0 e in (rw (z, ← p, ne-eqb (d .number) 0 f), rw z)
+
+      pub pack-0 : d .number ≡ 0 → record { number = 0; written = d .written; session = sessionAfter s } ≡ packOf s id (length out)
+      unfolding packOf
+      pack-0 f = rw (eq-eqb (packNumber s (length id)) 0 e, ← p, eq-eqb (d .number) 0 f)
+
+      pub pack-out : writeOut (contentsOf s id) out ≡ packOut s id out
+      unfolding packOut
+      pack-out = rw (eq-eqb (packNumber s (length id)) 0 e)
+
+  -- what Pack packs is set
+  pub pack-set : (n : ℕ) → packNumber s n ≡ 0 → set ≡ true
+  unfolding packNumber
+  pack-set n e = go set (isReady (s .programme .picture)) refl e
+    where
+      go : (a b : Bool) → set ≡ a → _≡_ {A = ℕ} (cond a (cond b (cond (eqb n 0 || eqb n 20) 0 11) 10) 1) 0 → set ≡ true
+      go true b p h = p
+      go false b p h = absurd (let z : ⊥ = omega arith in z)

@@ -1,0 +1,3 @@
+pub mod Prints
+pub mod Session
+pub mod Packing

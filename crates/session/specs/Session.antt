@@ -1,0 +1,129 @@
+-- A session and its calls but Pack (01, "What the card's software does", "What a caller is told").
+use Prim.Native.Nat.{ℕ}
+use mathlib.Core.List.{List, []}
+use mathlib.Core.Bool.{Bool, false, cond, _&&_}
+use lib.Dec.{leb, ltb, eqb}
+use lib.ListN.{length, getD, set}
+use Rattle.rates.specs.Rates.{pairsWith, intervalOf}
+use Rattle.picture.specs.declared.Picture.{Picture}
+use Rattle.picture.specs.declared.Told.the-variants.{Open}
+use Rattle.picture.specs.Pictures.{freshPicture, restarted}
+use Rattle.picture.specs.Pictures as picture
+use Rattle.fingerprint.specs.declared.Fingerprint.{Fingerprint}
+use Rattle.fingerprint.specs.State.{heardOf, soundNumber}
+use Rattle.session.specs.declared.Settings.{Settings}
+use Rattle.session.specs.declared.Programme.{Programme}
+use Rattle.session.specs.declared.Session.{Session}
+use Rattle.session.specs.declared.Begun.{Begun}
+use Rattle.session.specs.declared.Lined.{Lined}
+use Rattle.session.specs.declared.Sounded.{Sounded}
+use Rattle.session.specs.Prints.{allListed, freshPrints, each, cleared}
+
+-- the settings are those of an accepted setup: a format with a rate that it takes, and 1 to 32 fingerprints
+unfoldable pub isSet : Settings → Bool
+isSet s = pairsWith (s .format) (s .rate) && (leb 1 (s .count) && leb (s .count) 32)
+
+-- ---- Setup
+
+-- "1 format, rate pairing, fingerprint count or mix type not listed"
+unfoldable pub setupNumber : ℕ → ℕ → List ℕ → ℕ
+setupNumber format rate mixes =
+    cond (pairsWith format rate)
+    (cond (leb 1 (length mixes))
+    (cond (leb (length mixes) 32)
+    (cond (allListed mixes)
+    0
+    1) 1) 1) 1
+
+-- "The counter starts at 0"; the cadence "to frame 1, where setup starts it"
+unfoldable pub setUpWith : ℕ → ℕ → ℕ → List ℕ → Session
+setUpWith format rate count mixes =
+    record {
+      programme = record {
+        settings = record { format = format; rate = rate; count = count };
+        picture = freshPicture;
+        counter = 0;
+        place = 0;
+      };
+      prints = freshPrints mixes;
+    }
+
+-- "a refused setup gives an empty one"
+unfoldable pub emptySession : Session
+emptySession = setUpWith 0 0 0 []
+
+unfoldable pub setupOf : ℕ → ℕ → List ℕ → Begun
+setupOf format rate mixes =
+    cond (eqb (setupNumber format rate mixes) 0)
+    (record { number = 0; session = setUpWith format rate (length mixes) mixes })
+    (record { number = setupNumber format rate mixes; session = emptySession })
+
+-- ---- Line
+
+-- a session with another picture
+abbrev pub withPicture : Session → Picture → Session
+withPicture s p =
+    record {
+      programme = record {
+        settings = s .programme .settings;
+        picture = p;
+        counter = s .programme .counter;
+        place = s .programme .place;
+      };
+      prints = s .prints;
+    }
+
+-- "an empty one, for which Line, Sound and Pack return 1 first"; then what the picture says
+unfoldable pub lineOf : Session → ℕ → List ℕ → Lined
+lineOf s number line =
+    cond (isSet (s .programme .settings))
+    (record {
+      number = picture.lineOf (s .programme .picture) (s .programme .settings .format) number line .number;
+      told = picture.lineOf (s .programme .picture) (s .programme .settings .format) number line .told;
+      session = withPicture s (picture.lineOf (s .programme .picture) (s .programme .settings .format) number line .picture);
+    })
+    (record { number = 1; told = Open; session = s })
+
+-- ---- Sound
+
+abbrev pub noPrint : Fingerprint
+noPrint = record { mix = 0; envelope = 0; mean = 0; wait = 0; started = false; held = 0; bytes = [] }
+
+-- a session with another fingerprint k
+abbrev pub withPrint : Session → ℕ → Fingerprint → Session
+withPrint s k f = record { programme = s .programme; prints = set (s .prints) k f }
+
+-- "7 no such fingerprint; 8 length no multiple of one instant; 9 held plus new bits above 256"
+unfoldable pub soundedNumber : Session → ℕ → ℕ → ℕ
+soundedNumber s k len =
+    cond (isSet (s .programme .settings))
+    (cond (leb (s .programme .settings .count) k)
+    7
+    (soundNumber (intervalOf (s .programme .settings .rate)) (getD (s .prints) k noPrint) len)) 1
+
+unfoldable pub soundOf : Session → ℕ → List ℕ → Sounded
+soundOf s k block =
+    cond (eqb (soundedNumber s k (length block)) 0)
+    (record { number = 0; session = withPrint s k (heardOf (intervalOf (s .programme .settings .rate)) (getD (s .prints) k noPrint) block) })
+    (record { number = soundedNumber s k (length block); session = s })
+
+-- ---- Restarts: "never refused"; on an empty session they "change nothing"
+
+unfoldable pub videoRestarted : Session → Session
+videoRestarted s = cond (isSet (s .programme .settings)) (withPicture s (restarted (s .programme .picture))) s
+
+-- "clears all fingerprints and sets the cadence to frame 1"
+abbrev pub audioAnew : Session → Session
+audioAnew s =
+    record {
+      programme = record {
+        settings = s .programme .settings;
+        picture = s .programme .picture;
+        counter = s .programme .counter;
+        place = 0;
+      };
+      prints = each cleared (s .programme .settings .count) (s .prints);
+    }
+
+unfoldable pub audioRestarted : Session → Session
+audioRestarted s = cond (isSet (s .programme .settings)) (audioAnew s) s

@@ -1,0 +1,282 @@
+// The card's software as one value and six calls: Setup, Line, Sound, Pack and the two restarts (01, "What the card's software does", "What a caller is told").
+ghost use mathlib.Core.Path.{_≡_};
+ghost use Prim.Native.Nat.{_≤_};
+ghost use lib.ListN.{length};
+ghost use Rattle.session.specs.Session.{isSet, setupNumber, setUpWith, setupOf, lineOf, soundOf, videoRestarted, audioRestarted};
+ghost use Rattle.session.specs.Packing.{packNumber, packOf, packOut};
+use fingerprint::Fingerprint;
+use picture::Picture;
+use picture::Told;
+
+mod packing;
+mod prints;
+
+// What Setup fixes. An empty session has no fingerprint: count 0.
+pub struct Settings {
+    format: u8,
+    rate: u8,
+    count: u8,
+}
+
+// What a session has beside its fingerprints: the counter of its next container, and the place of the cadence, counted from 0.
+pub struct Programme {
+    settings: Settings,
+    picture: Picture,
+    counter: u8,
+    place: u8,
+}
+
+pub struct Session {
+    programme: Programme,
+    prints: [Fingerprint; 32],
+}
+
+// What each call answers: 01's number, what it tells beside, and the session after it.
+pub struct Begun {
+    pub number: u8,
+    pub session: Session,
+}
+
+pub struct Lined {
+    pub number: u8,
+    pub told: Told,
+    pub session: Session,
+}
+
+pub struct Sounded {
+    pub number: u8,
+    pub session: Session,
+}
+
+pub struct Packed {
+    pub number: u8,
+    pub written: usize,
+    pub session: Session,
+}
+
+// Whether the settings are those of an accepted setup; an empty session's are not.
+fn is_set(s: Settings) -> bool
+    ensures { λ r. ⌜ r ≡ isSet s ⌝ }
+{
+    if !rates::pairs(s.format, s.rate) {
+        return false;
+    }
+    if s.count < 1 {
+        return false;
+    }
+    s.count <= 32
+}
+
+// 1 where the format, the rate, their pairing, the number of mix types or one of them is not listed.
+fn setup_number(format: u8, rate: u8, mixes: &[u8]) -> u8
+    ensures { λ r. ⌜ r ≡ setupNumber format rate (now (mixes .entry)) ⌝ }
+{
+    if !rates::pairs(format, rate) {
+        return 1;
+    }
+    if mixes.len() < 1 {
+        return 1;
+    }
+    if 32 < mixes.len() {
+        return 1;
+    }
+    if prints::all_listed(mixes) { 0 } else { 1 }
+}
+
+// A session as setup makes it, from a number of mix types that it takes.
+fn set_up(format: u8, rate: u8, count: u8, mixes: &[u8]) -> Session
+    requires { ⌜ length (now mixes) ≤ 32 ⌝ }
+    ensures { λ r. ⌜ r ≡ setUpWith format rate count (now (mixes .entry)) ⌝ }
+{
+    let picture = picture::fresh();
+    let fresh = prints::fresh_prints(mixes);
+    Session {
+        programme: Programme {
+            settings: Settings {
+                format,
+                rate,
+                count,
+            },
+            picture,
+            counter: 0,
+            place: 0,
+        },
+        prints: fresh,
+    }
+}
+
+// Setup: 1, with an empty session.
+pub fn setup(format: u8, rate: u8, mixes: &[u8]) -> Begun
+    ensures { λ r. ⌜ r ≡ setupOf format rate (now (mixes .entry)) ⌝ }
+{
+    let number = setup_number(format, rate, mixes);
+    if number != 0 {
+        return Begun {
+            number,
+            session: set_up(0, 0, 0, &mixes[..0]),
+        };
+    }
+    Begun {
+        number: 0,
+        session: set_up(format, rate, mixes.len() as u8, mixes),
+    }
+}
+
+// Line: 1 for an empty session, then 2 to 5.
+pub fn line(s: Session, number: usize, line: &[u8]) -> Lined
+    ensures { λ r. ⌜ r ≡ lineOf s number (now (line .entry)) ⌝ }
+{
+    let p = s.programme;
+    let settings = p.settings;
+    if !is_set(settings) {
+        return Lined {
+            number: 1,
+            told: Told::Open,
+            session: s,
+        };
+    }
+    let before = p.picture;
+    let r = picture::line(before, settings.format, number, line);
+    let told = r.told;
+    let after = r.picture;
+    let kept = s.prints;
+    Lined {
+        number: r.number,
+        told,
+        session: Session {
+            programme: Programme {
+                settings,
+                picture: after,
+                counter: p.counter,
+                place: p.place,
+            },
+            prints: kept,
+        },
+    }
+}
+
+// Sound: 1 for an empty session, 7, then 8 and 9.
+pub fn sound(s: Session, k: usize, block: &[u8]) -> Sounded
+    ensures { λ r. ⌜ r ≡ soundOf s k (now (block .entry)) ⌝ }
+{
+    let p = s.programme;
+    let settings = p.settings;
+    if !is_set(settings) {
+        return Sounded {
+            number: 1,
+            session: s,
+        };
+    }
+    if settings.count as usize <= k {
+        return Sounded {
+            number: 7,
+            session: s,
+        };
+    }
+    let d = rates::interval(settings.rate);
+    let f = s.prints[k];
+    let number = fingerprint::sound_number(f, d, block.len());
+    if number != 0 {
+        return Sounded { number, session: s };
+    }
+    let heard = fingerprint::heard(f, d, block);
+    let mut next = s;
+    next.prints[k] = heard;
+    Sounded {
+        number: 0,
+        session: next,
+    }
+}
+
+// A video restart is never refused; an empty session stays as it is.
+pub fn video_restart(s: Session) -> Session
+    ensures { λ r. ⌜ r ≡ videoRestarted s ⌝ }
+{
+    let p = s.programme;
+    let settings = p.settings;
+    if !is_set(settings) {
+        return s;
+    }
+    let before = p.picture;
+    let after = picture::restart(before);
+    let kept = s.prints;
+    Session {
+        programme: Programme {
+            settings,
+            picture: after,
+            counter: p.counter,
+            place: p.place,
+        },
+        prints: kept,
+    }
+}
+
+// An audio restart clears all fingerprints and sets the cadence to its first frame; an empty session stays as it is.
+pub fn audio_restart(s: Session) -> Session
+    ensures { λ r. ⌜ r ≡ audioRestarted s ⌝ }
+{
+    let p = s.programme;
+    let settings = p.settings;
+    if !is_set(settings) {
+        return s;
+    }
+    let before = s.prints;
+    let cleared = prints::clear(before, settings.count as usize);
+    let picture = p.picture;
+    Session {
+        programme: Programme {
+            settings,
+            picture,
+            counter: p.counter,
+            place: 0,
+        },
+        prints: cleared,
+    }
+}
+
+// 1 for an empty session, 10, 11.
+fn pack_number(s: Session, given: usize) -> u8
+    ensures { λ r. ⌜ r ≡ packNumber s given ⌝ }
+{
+    let p = s.programme;
+    let settings = p.settings;
+    if !is_set(settings) {
+        return 1;
+    }
+    let picture = p.picture;
+    if !picture::is_ready(picture) {
+        return 10;
+    }
+    if given == 0 {
+        return 0;
+    }
+    if given == 20 { 0 } else { 11 }
+}
+
+// Pack: 1 for an empty session, 10, 11, 13, 12.
+pub fn pack(s: Session, id: &[u8], out: &mut [u8]) -> Packed
+    ensures { λ r. ⌜ (r ≡ packOf s (now (id .entry)) (length (now (out .entry)))) × (now (out .exit) ≡ packOut s (now (id .entry)) (now (out .entry))) ⌝ }
+{
+    let number = pack_number(s, id.len());
+    if number != 0 {
+        return Packed {
+            number,
+            written: 0,
+            session: s,
+        };
+    }
+    let contents = packing::contents(s, id);
+    let done = container::write_container(contents, out);
+    if done.number != 0 {
+        return Packed {
+            number: done.number,
+            written: 0,
+            session: s,
+        };
+    }
+    Packed {
+        number: 0,
+        written: done.written,
+        session: packing::after(s),
+    }
+}
