@@ -4,6 +4,7 @@ use mathlib.Core.List.{List}
 use mathlib.Core.Bool.{Bool, cond}
 use lib.ListN.{length, getD, take, drop}
 use lib.Dec.{leb, ltb, eqb}
+use Rattle.laws.specs.Calls.{unless}
 use Rattle.laws.specs.Sums.{sum}
 use Rattle.rates.specs.Rates.{rateListed}
 use Rattle.container.specs.declared.IdPart.{IdPart}
@@ -17,14 +18,13 @@ use Rattle.container.specs.Parts.{idPart, videoPart, audioPart}
 -- "20 under 5 bytes; 21 version; 22 size not Length + 3; 23 checksum; 24 rate code or bit 3", or 0
 unfoldable pub headerNumber : List ℕ → ℕ
 headerNumber s =
-    cond (leb 5 (length s))
-    (cond (eqb (getD s 0 0) 0)
-    (cond (eqb (length s) (getD s 2 0 + 3))
-    (cond (eqb (sum s % 256) 0)
-    (cond (rateListed (getD s 3 0 / 16))
-    (cond (ltb (getD s 3 0 % 16) 8)
-    0
-    24) 24) 23) 22) 21) 20
+    unless (leb 5 (length s)) 20
+    (unless (eqb (getD s 0 0) 0) 21
+    (unless (eqb (length s) (getD s 2 0 + 3)) 22
+    (unless (eqb (sum s % 256) 0) 23
+    (unless (rateListed (getD s 3 0 / 16)) 24
+    (unless (ltb (getD s 3 0 % 16) 8) 24
+    0)))))
 
 -- "a refused reading's contents are all zero, with no video"
 abbrev pub refusal : ℕ → Reading

@@ -5,7 +5,7 @@ use mathlib.Core.List.{List, [], _∷_}
 use mathlib.Core.Bool.{Bool, true, false, cond, _&&_}
 use lib.ListN.{length, getD, drop}
 use lib.Dec.{leb, eqb}
-use Rattle.laws.specs.Calls.{roomNumber, doneWith, outWith}
+use Rattle.laws.specs.Calls.{unless, roomNumber, doneWith, outWith}
 use Rattle.laws.specs.declared.Done.{Done}
 use Rattle.rates.specs.Rates.{rateListed, twoFields}
 use Rattle.rates.specs.Mixes.{mixListed}
@@ -59,7 +59,7 @@ readable c =
 
 -- 29, then 13
 unfoldable pub contentsNumber : Contents → ℕ
-contentsNumber c = cond (readable c) (cond (leb (length (encode c)) 255) 0 13) 29
+contentsNumber c = unless (readable c) 29 (unless (leb (length (encode c)) 255) 13 0)
 
 -- then 12
 unfoldable pub writeNumber : Contents → ℕ → ℕ

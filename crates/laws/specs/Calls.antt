@@ -6,6 +6,10 @@ use lib.ListN.{length, drop}
 use lib.Dec.{ltb, eqb}
 use Rattle.laws.specs.declared.Done.{Done}
 
+-- a chain of refusals, "the number furthest left is checked first": the test that must hold, the number where it does not, and what is checked next
+abbrev pub unless : Bool → ℕ → ℕ → ℕ
+unless test number next = cond test next number
+
 -- "A success writes the first bytes of the output as counted and no others"
 unfoldable pub over : List ℕ → List ℕ → List ℕ
 over bytes out = bytes ++ drop (length bytes) out

@@ -4,7 +4,7 @@ use mathlib.Core.Bool.{Bool, false, cond, _&&_, _||_, not}
 use lib.Dec.{ltb, leb, eqb}
 use Rattle.sampling.specs.declared.Row.{Row}
 use Rattle.sampling.specs.Formats.{rowOf}
-use Rattle.sampling.specs.Samples.{unless}
+use Rattle.laws.specs.Calls.{unless}
 
 -- whether n is one of the k lines from first on, step apart
 unfoldable pub among : ℕ → ℕ → ℕ → ℕ → Bool

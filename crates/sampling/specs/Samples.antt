@@ -5,7 +5,7 @@ use mathlib.Core.List.{List, [], _∷_, _++_}
 use lib.Dec.{ltb, eqb}
 use lib.ListN.{length, getD}
 use Rattle.laws.specs.declared.Done.{Done}
-use Rattle.laws.specs.Calls.{roomNumber, doneWith, outWith}
+use Rattle.laws.specs.Calls.{unless, roomNumber, doneWith, outWith}
 use Rattle.sampling.specs.declared.Row.{Row}
 use Rattle.sampling.specs.Formats.{rowOf}
 
@@ -34,10 +34,6 @@ firsts f (suc n) = firsts f n ++ (f n ∷ [])
 -- the 60 pixels of a line of a format
 unfoldable pub pixels : Row → List ℕ → List ℕ
 pixels r line = firsts (pixelBy line (r .hstart) (r .hstep) (r .before) (r .before + 1 + r .after)) 60
-
--- a refusal: the test that must hold, the number where it does not, and what is checked next
-abbrev pub unless : Bool → ℕ → ℕ → ℕ
-unless test number next = cond test next number
 
 -- all but 12: "1 (format only), 2" length not 2 x width
 unfoldable pub sampleNumber : ℕ → List ℕ → ℕ

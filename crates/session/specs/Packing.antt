@@ -4,6 +4,7 @@ use mathlib.Core.List.{List}
 use mathlib.Core.Bool.{Bool, cond, _||_}
 use lib.Dec.{eqb}
 use lib.ListN.{length, getD, replicate}
+use Rattle.laws.specs.Calls.{unless}
 use Rattle.laws.specs.declared.Done.{Done}
 use Rattle.rates.specs.Cadence.{cadence, placeAfter}
 use Rattle.picture.specs.declared.Shown.{Shown}
@@ -78,11 +79,10 @@ sessionAfter s =
 -- 1 for an empty session; "10 no ready frame; 11 ID length neither 0 nor 20"
 unfoldable pub packNumber : Session → ℕ → ℕ
 packNumber s idLength =
-    cond (isSet (s .programme .settings))
-    (cond (isReady (s .programme .picture))
-    (cond (eqb idLength 0 || eqb idLength 20)
-    0
-    11) 10) 1
+    unless (isSet (s .programme .settings)) 1
+    (unless (isReady (s .programme .picture)) 10
+    (unless (eqb idLength 0 || eqb idLength 20) 11
+    0))
 
 abbrev pub refusedWith : ℕ → Session → Packed
 refusedWith number s = record { number = number; written = 0; session = s }

@@ -4,6 +4,7 @@ use mathlib.Core.List.{List, []}
 use mathlib.Core.Bool.{Bool, false, cond, _&&_}
 use lib.Dec.{leb, ltb, eqb}
 use lib.ListN.{length, getD, set}
+use Rattle.laws.specs.Calls.{unless}
 use Rattle.rates.specs.Rates.{pairsWith, intervalOf}
 use Rattle.picture.specs.declared.Picture.{Picture}
 use Rattle.picture.specs.declared.Told.the-variants.{Open}
@@ -28,12 +29,11 @@ isSet s = pairsWith (s .format) (s .rate) && (leb 1 (s .count) && leb (s .count)
 -- "1 format, rate pairing, fingerprint count or mix type not listed"
 unfoldable pub setupNumber : ℕ → ℕ → List ℕ → ℕ
 setupNumber format rate mixes =
-    cond (pairsWith format rate)
-    (cond (leb 1 (length mixes))
-    (cond (leb (length mixes) 32)
-    (cond (allListed mixes)
-    0
-    1) 1) 1) 1
+    unless (pairsWith format rate) 1
+    (unless (leb 1 (length mixes)) 1
+    (unless (leb (length mixes) 32) 1
+    (unless (allListed mixes) 1
+    0)))
 
 -- "The counter starts at 0"; the cadence "to frame 1, where setup starts it"
 unfoldable pub setUpWith : ℕ → ℕ → ℕ → List ℕ → Session
@@ -96,10 +96,9 @@ withPrint s k f = record { programme = s .programme; prints = set (s .prints) k 
 -- "7 no such fingerprint; 8 length no multiple of one instant; 9 held plus new bits above 256"
 unfoldable pub soundedNumber : Session → ℕ → ℕ → ℕ
 soundedNumber s k len =
-    cond (isSet (s .programme .settings))
-    (cond (leb (s .programme .settings .count) k)
-    7
-    (soundNumber (intervalOf (s .programme .settings .rate)) (getD (s .prints) k noPrint) len)) 1
+    unless (isSet (s .programme .settings)) 1
+    (cond (leb (s .programme .settings .count) k) 7
+    (soundNumber (intervalOf (s .programme .settings .rate)) (getD (s .prints) k noPrint) len))
 
 unfoldable pub soundOf : Session → ℕ → List ℕ → Sounded
 soundOf s k block =

@@ -1,0 +1,4 @@
+pub mod Places
+pub mod Back
+pub mod Again
+pub mod Unique

@@ -1,0 +1,61 @@
+// What the card's host, written in C, calls; include/lipsync.h has the declarations.
+ghost use mathlib.Core.Path.{_≡_};
+ghost use lib.ListN.{length};
+ghost use Rattle.packet.specs.Writing.{writeDone, writeOut};
+ghost use Rattle.packet.specs.Reading.{readDone, readOut};
+ghost use Rattle.sampling.specs.Samples.{sampleDone, sampleOut};
+ghost use Rattle.host.specs.Host.{readNumber, readFlat};
+
+// Read container, its contents flat: 20 to 28, 12.
+#[no_mangle]
+pub extern "C" fn lipsync_read_container(bytes: &[u8], out: &mut [u8]) -> u8
+    ensures { λ r. ⌜ r ≡ readNumber (now (bytes .entry)) (length (now (out .entry))) ⌝ }
+    ensures { λ _. ⌜ now (out .exit) ≡ readFlat (now (bytes .entry)) (now (out .entry)) ⌝ }
+{
+    let r = container::read_container(bytes);
+    let number = r.number;
+    if number != 0 {
+        return number;
+    }
+    let contents = r.contents;
+    let flat = flat::flatten(contents);
+    if out.len() < 283 {
+        return 12;
+    }
+    laws::copy_at(&flat, out, 0);
+    0
+}
+
+// Write packet: 20 to 28, 12.
+#[no_mangle]
+pub extern "C" fn lipsync_write_packet(container: &[u8], out: &mut [u8], written: &mut usize) -> u8
+    ensures { λ r. ⌜ r ≡ writeDone (now (container .entry)) (length (now (out .entry))) .number ⌝ }
+    ensures { λ _. ⌜ now (out .exit) ≡ writeOut (now (container .entry)) (now (out .entry)) ⌝ }
+    ensures { λ _. ⌜ now (written .exit) ≡ writeDone (now (container .entry)) (length (now (out .entry))) .written ⌝ }
+{
+    let d = packet::write_packet(container, out);
+    *written = d.written;
+    d.number
+}
+
+// Read packet: 30 to 36, 20 to 28, 12.
+#[no_mangle]
+pub extern "C" fn lipsync_read_packet(words: &[u8], out: &mut [u8], written: &mut usize) -> u8
+    ensures { λ r. ⌜ r ≡ readDone (now (words .entry)) (length (now (out .entry))) .number ⌝ }
+    ensures { λ _. ⌜ now (out .exit) ≡ readOut (now (words .entry)) (now (out .entry)) ⌝ }
+    ensures { λ _. ⌜ now (written .exit) ≡ readDone (now (words .entry)) (length (now (out .entry))) .written ⌝ }
+{
+    let d = packet::read_packet(words, out);
+    *written = d.written;
+    d.number
+}
+
+// Line sampling: 1, 2, 12.
+#[no_mangle]
+pub extern "C" fn lipsync_sample_line(format: u8, line: &[u8], out: &mut [u8]) -> u8
+    ensures { λ r. ⌜ r ≡ sampleDone format (now (line .entry)) (now (out .entry)) .number ⌝ }
+    ensures { λ _. ⌜ now (out .exit) ≡ sampleOut format (now (line .entry)) (now (out .entry)) ⌝ }
+{
+    let d = sampling::sample_line(format, line, out);
+    d.number
+}

@@ -1,0 +1,4 @@
+pub mod Parity
+pub mod TenBits
+pub mod Passed
+pub mod Unique

@@ -1,0 +1,483 @@
+/*
+ * What the host's calls answer, against document 01: its figures, each refusal, short buffers between guard bytes, and damaged containers and packets from a
+ * fixed seed. What is expected is worked out here from 01's rules, never taken from the library. Prints the number of checks; the first that fails ends it.
+ */
+#include "lipsync.h"
+#include <stdio.h>
+#include <stdlib.h>
+#include <string.h>
+
+static unsigned long checks;
+
+static void check(int right, const char *what, int line) {
+    checks++;
+    if (!right) {
+        fprintf(stderr, "tests/host.c:%d: %s\n", line, what);
+        exit(1);
+    }
+}
+#define CHECK(x) check(x, #x, __LINE__)
+
+/* ---- a buffer of some room between guard bytes */
+
+enum { GUARD = 64, MOST = 1200, FILL = 0xA5 };
+
+static uint8_t area[GUARD + MOST + GUARD];
+
+static uint8_t *lend(void) {
+    memset(area, FILL, sizeof area);
+    return area + GUARD;
+}
+
+/* the buffer starts with these bytes, and all else is as it was lent */
+static int holds(const uint8_t *bytes, size_t n) {
+    if (n && memcmp(area + GUARD, bytes, n)) return 0;
+    for (size_t i = 0; i < sizeof area; i++)
+        if ((i < GUARD || i >= GUARD + n) && area[i] != FILL) return 0;
+    return 1;
+}
+
+static int untouched(void) { return holds(NULL, 0); }
+
+/* ---- random numbers from a fixed seed */
+
+static uint64_t seed = 2064;
+
+static uint32_t below(uint32_t n) {
+    seed ^= seed << 13;
+    seed ^= seed >> 7;
+    seed ^= seed << 17;
+    return (uint32_t)(seed >> 32) % n;
+}
+
+/* ---- document 01, The container: the first refusal, or 0 and the contents, flat */
+
+static int judge_container(const uint8_t *s, size_t n, uint8_t *flat) {
+    size_t p = 4, end = n - 1;
+    unsigned sum = 0;
+    memset(flat, 0, 283);
+    if (n < 5) return 20;
+    if (s[0] != 0) return 21;
+    if (n != s[2] + 3u) return 22;
+    for (size_t i = 0; i < n; i++) sum += s[i];
+    if (sum % 256 != 0) return 23;
+    unsigned rate = s[3] >> 4;
+    if (rate < 2 || rate > 11 || (s[3] & 8)) return 24;
+    flat[0] = s[1];
+    flat[1] = (uint8_t)rate;
+    if (s[3] & 4) {
+        if (end - p < 21 || s[p] != 0) return 25;
+        flat[2] = 1;
+        memcpy(flat + 3, s + p + 1, 20);
+        p += 21;
+    }
+    if (s[3] & 2) {
+        if (end - p < 2) return 26;
+        unsigned values = s[p] == 0x09 ? 1 : s[p] == 0x11 ? 2 : 0;
+        if (values == 0 || (values == 2 && (rate < 5 || rate > 7)) || end - p < values + 1) return 26;
+        flat[23] = (uint8_t)values;
+        for (unsigned i = 0; i < values; i++) {
+            if (s[p + 1 + i] > 240) return 26;
+            flat[24 + i] = s[p + 1 + i];
+        }
+        p += values + 1;
+    }
+    if (s[3] & 1) {
+        if (end - p < 1 || s[p] % 8 != 2) return 27;
+        unsigned count = s[p] / 8 + 1;
+        flat[26] = (uint8_t)count;
+        p++;
+        for (unsigned k = 0; k < count; k++) {
+            if (end - p < 2) return 27;
+            unsigned mix = s[p] % 8, size = s[p + 1] / 8;
+            if (mix != 1 && mix != 2 && mix != 5) return 27;
+            if (s[p + 1] % 8 != 0 || size < 1 || size > 5 || end - p < 2 + size) return 27;
+            uint8_t *f = flat + 27 + 8 * k;
+            f[0] = s[p] / 8;
+            f[1] = (uint8_t)mix;
+            f[2] = (uint8_t)size;
+            memcpy(f + 3, s + p + 2, size);
+            p += 2 + size;
+        }
+    }
+    return p == end ? 0 : 28;
+}
+
+/* ---- document 01, The packet */
+
+static unsigned with_parity(unsigned byte) {
+    unsigned ones = 0;
+    for (unsigned bit = 0; bit < 8; bit++) ones += byte >> bit & 1;
+    return byte | (ones % 2 ? 0x100u : 0x200u);
+}
+
+static unsigned checksum(const unsigned *words, size_t n) {
+    unsigned sum = 0;
+    for (size_t i = 0; i < n; i++) sum += words[i] & 0x1FF;
+    sum &= 0x1FF;
+    return sum | (~sum << 1 & 0x200u);
+}
+
+static size_t wrap(const uint8_t *c, size_t n, unsigned *w) {
+    static const unsigned start[] = {0x000, 0x3FF, 0x3FF, 0x241, 0x10B};
+    memcpy(w, start, sizeof start);
+    w[5] = with_parity((unsigned)n & 0xFF);
+    for (size_t i = 0; i < n; i++) w[6 + i] = with_parity(c[i]);
+    w[6 + n] = checksum(w + 3, n + 3);
+    return n + 7;
+}
+
+static size_t lay(const unsigned *w, size_t n, uint8_t *bytes) {
+    for (size_t i = 0; i < n; i++) {
+        bytes[2 * i] = w[i] & 0xFF;
+        bytes[2 * i + 1] = (uint8_t)(w[i] >> 8);
+    }
+    return 2 * n;
+}
+
+static int judge_packet(const uint8_t *s, size_t size, uint8_t *container, size_t *n) {
+    unsigned w[MOST];
+    uint8_t flat[283];
+    size_t words = size / 2;
+    *n = 0;
+    if (size % 2) return 30;
+    for (size_t i = 0; i < words; i++) {
+        w[i] = s[2 * i] + 256u * s[2 * i + 1];
+        if (w[i] > 0x3FF) return 30;
+    }
+    if (words < 7) return 31;
+    if (w[0] != 0 || w[1] != 0x3FF || w[2] != 0x3FF) return 32;
+    if (w[3] != 0x241 || w[4] != 0x10B) return 33;
+    if (w[5] != with_parity(w[5] & 0xFF) || words != (w[5] & 0xFF) + 7) return 34;
+    size_t count = words - 7;
+    for (size_t i = 0; i < count; i++) {
+        if (w[6 + i] != with_parity(w[6 + i] & 0xFF)) return 35;
+        container[i] = w[6 + i] & 0xFF;
+    }
+    if (w[6 + count] != checksum(w + 3, count + 3)) return 36;
+    *n = count;
+    return judge_container(container, count, flat);
+}
+
+/* ---- calls, each compared with what 01 says, at some room */
+
+static int seen[64];
+
+static void try_container(const uint8_t *s, size_t n, size_t room) {
+    uint8_t flat[283], copy[MOST];
+    if (n) memcpy(copy, s, n);
+    int expected = judge_container(s, n, flat);
+    if (expected == 0 && room < 283) expected = 12;
+    uint8_t *out = lend();
+    int number = lipsync_read_container(s, n, out, room);
+    seen[number]++;
+    CHECK(number == expected);
+    CHECK(holds(flat, number == 0 ? 283 : 0));
+    CHECK(n == 0 || memcmp(copy, s, n) == 0);
+}
+
+static void try_wrap(const uint8_t *s, size_t n, size_t room) {
+    uint8_t flat[283], packet[2 * MOST];
+    unsigned words[MOST];
+    size_t written = 99, size = 0;
+    int expected = judge_container(s, n, flat);
+    if (expected == 0) size = lay(words, wrap(s, n, words), packet);
+    if (expected == 0 && room < size) expected = 12;
+    uint8_t *out = lend();
+    int number = lipsync_write_packet(s, n, out, room, &written);
+    seen[number]++;
+    CHECK(number == expected);
+    CHECK(written == (number == 0 ? size : 0));
+    CHECK(holds(packet, written));
+}
+
+static void try_unwrap(const uint8_t *s, size_t n, size_t room) {
+    uint8_t container[MOST], again[2 * MOST];
+    size_t written = 99, size, rewritten = 99;
+    int expected = judge_packet(s, n, container, &size);
+    if (expected == 0 && room < size) expected = 12;
+    uint8_t *out = lend();
+    int number = lipsync_read_packet(s, n, out, room, &written);
+    seen[number]++;
+    CHECK(number == expected);
+    CHECK(written == (number == 0 ? size : 0));
+    CHECK(holds(container, written));
+    if (number == 0) {
+        CHECK(lipsync_write_packet(out, written, again, sizeof again, &rewritten) == 0);
+        CHECK(rewritten == n && memcmp(again, s, n) == 0);
+    }
+}
+
+/* ---- containers made by 01's rules */
+
+static void close_up(uint8_t *s, size_t n) {
+    unsigned sum = 0;
+    s[2] = (uint8_t)(n - 3);
+    for (size_t i = 0; i + 1 < n; i++) sum += s[i];
+    s[n - 1] = (uint8_t)(256 - sum % 256);
+}
+
+static size_t made(uint8_t *s) {
+    static const uint8_t mixes[] = {1, 2, 5};
+    unsigned rate = 2 + below(10), flags = below(8);
+    size_t n = 4;
+    s[0] = 0;
+    s[1] = (uint8_t)below(256);
+    s[3] = (uint8_t)(rate * 16 + flags);
+    if (flags & 4) {
+        s[n++] = 0;
+        for (int i = 0; i < 20; i++) s[n++] = (uint8_t)below(256);
+    }
+    if (flags & 2) {
+        unsigned values = rate >= 5 && rate <= 7 ? 1 + below(2) : 1;
+        s[n++] = values == 1 ? 0x09 : 0x11;
+        while (values--) s[n++] = (uint8_t)below(241);
+    }
+    if (flags & 1) {
+        unsigned count = below(4) ? 1 + below(4) : 1 + below(32);
+        s[n++] = (uint8_t)((count - 1) * 8 + 2);
+        while (count--) {
+            unsigned size = 1 + below(5);
+            s[n++] = (uint8_t)(below(32) * 8 + mixes[below(3)]);
+            s[n++] = (uint8_t)(size * 8);
+            while (size--) s[n++] = (uint8_t)below(256);
+        }
+    }
+    close_up(s, n + 1);
+    return n + 1;
+}
+
+/* some damage, after which Length and checksum may be set right again, so that what lies behind them is met */
+static size_t damaged(uint8_t *s, size_t n) {
+    for (unsigned times = 1 + below(3); times; times--) {
+        switch (below(6)) {
+        case 0: s[below((uint32_t)n)] ^= (uint8_t)(1u << below(8)); break;
+        case 1: s[below((uint32_t)n)] = (uint8_t)below(256); break;
+        case 2: n = n > 1 ? n - 1 : n; break;
+        case 3: s[n++] = (uint8_t)below(256); break;
+        case 4: s[3] = (uint8_t)below(256); break;
+        default: n = below(20) ? n : 1 + below((uint32_t)n); break;
+        }
+    }
+    if (n >= 5 && n <= 258 && below(4)) close_up(s, n);
+    return n;
+}
+
+/* ---- the parts of the test */
+
+static void figures(void) {
+    const uint8_t bare[] = {0x00, 0x00, 0x02, 0x50, 0xAE};
+    const unsigned words[] = {0x000, 0x3FF, 0x3FF, 0x241, 0x10B, 0x205, 0x200, 0x200, 0x102, 0x250, 0x1AE, 0x251};
+    const uint8_t video[] = {0x00, 0x07, 0x04, 0x52, 0x09, 0xF0, 0xAA};
+    uint8_t audio[] = {0x00, 0x00, 0x07, 0xB1, 0x02, 0x01, 0x10, 0xFF, 0x01, 0x35};
+    uint8_t flat[283] = {0}, packet[24];
+    size_t written;
+
+    flat[1] = 5;
+    CHECK(lipsync_read_container(bare, sizeof bare, lend(), 283) == 0);
+    CHECK(holds(flat, 283));
+    lay(words, 12, packet);
+    CHECK(lipsync_write_packet(bare, sizeof bare, lend(), MOST, &written) == 0 && written == 24);
+    CHECK(holds(packet, 24));
+    CHECK(lipsync_read_packet(packet, 24, lend(), MOST, &written) == 0 && written == 5);
+    CHECK(holds(bare, 5));
+
+    flat[0] = 7;
+    flat[23] = 1;
+    flat[24] = 240;
+    CHECK(lipsync_read_container(video, sizeof video, lend(), 283) == 0);
+    CHECK(holds(flat, 283));
+
+    memset(flat, 0, sizeof flat);
+    flat[1] = 11;
+    flat[26] = 1;
+    flat[28] = 1;
+    flat[29] = 2;
+    flat[30] = 0xFF;
+    flat[31] = 0x01;
+    CHECK(lipsync_read_container(audio, sizeof audio, lend(), 283) == 0);
+    CHECK(holds(flat, 283));
+    audio[9] = 0x36;
+    CHECK(lipsync_read_container(audio, sizeof audio, lend(), 283) == 23);
+    CHECK(untouched());
+}
+
+/* a container of these bytes before its checksum, with Length and checksum right */
+static void refused_as(int number, const uint8_t *front, size_t n) {
+    uint8_t s[64], packet[256];
+    unsigned words[64];
+    size_t written = 99;
+    memcpy(s, front, n);
+    close_up(s, n + 1);
+    CHECK(lipsync_read_container(s, n + 1, lend(), MOST) == number);
+    CHECK(untouched());
+    CHECK(lipsync_write_packet(s, n + 1, lend(), MOST, &written) == number && written == 0);
+    CHECK(untouched());
+    size_t size = lay(words, wrap(s, n + 1, words), packet);
+    written = 99;
+    CHECK(lipsync_read_packet(packet, size, lend(), MOST, &written) == number && written == 0);
+    CHECK(untouched());
+    try_container(s, n + 1, MOST);
+}
+#define REFUSED_AS(number, ...) refused_as(number, (const uint8_t[]){__VA_ARGS__}, sizeof((const uint8_t[]){__VA_ARGS__}))
+
+static void container_refusals(void) {
+    const uint8_t bare[] = {0x00, 0x00, 0x02, 0x50, 0xAE}, later[] = {0x01, 0x00, 0x02, 0x50, 0xAD};
+    const uint8_t longer[] = {0x00, 0x00, 0x03, 0x50, 0xAD}, unsummed[] = {0x00, 0x00, 0x02, 0x50, 0xAF};
+    size_t written;
+
+    CHECK(lipsync_read_container(NULL, 0, lend(), MOST) == 20);
+    CHECK(untouched());
+    for (size_t n = 0; n < 5; n++) CHECK(lipsync_read_container(bare, n, lend(), MOST) == 20 && untouched());
+    CHECK(lipsync_write_packet(NULL, 0, lend(), MOST, &written) == 20 && untouched());
+    CHECK(lipsync_read_container(later, 5, lend(), MOST) == 21 && untouched());
+    CHECK(lipsync_read_container(longer, 5, lend(), MOST) == 22 && untouched());
+    CHECK(lipsync_read_container(unsummed, 5, lend(), MOST) == 23 && untouched());
+    REFUSED_AS(24, 0, 0, 0, 0x10);                               /* rate code 1 */
+    REFUSED_AS(24, 0, 0, 0, 0xC0);                               /* rate code 12 */
+    REFUSED_AS(24, 0, 0, 0, 0x58);                               /* bit 3 */
+    REFUSED_AS(25, 0, 0, 0, 0x54);                               /* no ID bytes */
+    REFUSED_AS(25, 0, 0, 0, 0x54, 0, 1, 2, 3, 4, 5, 6, 7, 8, 9, 10, 11, 12, 13, 14, 15, 16, 17, 18, 19);
+    REFUSED_AS(25, 0, 0, 0, 0x54, 1, 1, 2, 3, 4, 5, 6, 7, 8, 9, 10, 11, 12, 13, 14, 15, 16, 17, 18, 19, 20);
+    REFUSED_AS(26, 0, 0, 0, 0x52, 0x09);                         /* no value */
+    REFUSED_AS(26, 0, 0, 0, 0x52, 0x0A, 0);                      /* neither 09h nor 11h */
+    REFUSED_AS(26, 0, 0, 0, 0x52, 0x09, 241);                    /* above 240 */
+    REFUSED_AS(26, 0, 0, 0, 0x52, 0x11, 0);                      /* one value of two */
+    REFUSED_AS(26, 0, 0, 0, 0x52, 0x11, 0, 241);                 /* the second above 240 */
+    REFUSED_AS(26, 0, 0, 0, 0x32, 0x11, 0, 0);                   /* two at 24 Hz */
+    REFUSED_AS(26, 0, 0, 0, 0x82, 0x11, 0, 0);                   /* two at 48 Hz */
+    REFUSED_AS(27, 0, 0, 0, 0x51);                               /* no count */
+    REFUSED_AS(27, 0, 0, 0, 0x51, 0x03, 0x01, 0x08, 0);          /* count's low bits not 2 */
+    REFUSED_AS(27, 0, 0, 0, 0x51, 0x02, 0x01);                   /* no AFDataCount */
+    REFUSED_AS(27, 0, 0, 0, 0x51, 0x02, 0x03, 0x08, 0);          /* mix type 3 */
+    REFUSED_AS(27, 0, 0, 0, 0x51, 0x02, 0x01, 0x09, 0);          /* AFDataCount's low bits not 0 */
+    REFUSED_AS(27, 0, 0, 0, 0x51, 0x02, 0x01, 0x00);             /* no bytes */
+    REFUSED_AS(27, 0, 0, 0, 0x51, 0x02, 0x01, 0x30, 0, 0, 0, 0, 0, 0); /* six bytes */
+    REFUSED_AS(27, 0, 0, 0, 0x51, 0x02, 0x01, 0x10, 0);          /* one byte of two */
+    REFUSED_AS(27, 0, 0, 0, 0x51, 0x0A, 0x01, 0x08, 0);          /* one fingerprint of two */
+    REFUSED_AS(28, 0, 0, 0, 0x50, 0);                            /* a byte left over */
+    REFUSED_AS(28, 0, 0, 0, 0x51, 0x02, 0x01, 0x08, 0, 0);
+}
+
+static void packet_refusals(void) {
+    const uint8_t bare[] = {0x00, 0x00, 0x02, 0x50, 0xAE};
+    unsigned words[12], w[12];
+    uint8_t p[32];
+    size_t written = 99;
+    wrap(bare, 5, words);
+
+    CHECK(lipsync_read_packet(NULL, 0, lend(), MOST, &written) == 31 && written == 0 && untouched());
+    for (size_t n = 0; n < 24; n++) { /* odd sizes, under 7 words, then fewer than count + 7 */
+        lay(words, 12, p);
+        CHECK(lipsync_read_packet(p, n, lend(), MOST, &written) == (n % 2 ? 30 : n < 14 ? 31 : 34) && written == 0 && untouched());
+    }
+    const struct { unsigned at, word; int number; } wrong[] = {
+        {0, 0x400, 30}, {11, 0x400, 30}, {7, 0xFFFF, 30}, {0, 0x001, 32}, {1, 0x3FE, 32}, {2, 0x000, 32}, {3, 0x141, 33}, {3, 0x242, 33}, {4, 0x20B, 33},
+        {4, 0x10C, 33}, {5, 0x105, 34}, {5, 0x005, 34}, {5, 0x305, 34}, {5, 0x206, 34}, {5, 0x104, 34}, {6, 0x100, 35}, {6, 0x000, 35}, {10, 0x3AE, 35},
+        {10, 0x2AE, 35}, {8, 0x101, 36}, {11, 0x051, 36}, {11, 0x151, 36}, {11, 0x252, 36}};
+    for (size_t i = 0; i < sizeof wrong / sizeof wrong[0]; i++) {
+        memcpy(w, words, sizeof w);
+        w[wrong[i].at] = wrong[i].word;
+        size_t size = lay(w, 12, p);
+        written = 99;
+        CHECK(lipsync_read_packet(p, size, lend(), MOST, &written) == wrong[i].number && written == 0 && untouched());
+        try_unwrap(p, size, MOST);
+    }
+    w[0] = 0x400; /* every word is looked at before the size: 30, not 31 */
+    CHECK(lipsync_read_packet(p, lay(w, 1, p), lend(), MOST, &written) == 30 && untouched());
+    memcpy(w, words, sizeof w);
+    w[0] = 1; /* the number furthest left */
+    w[3] = w[5] = w[6] = w[11] = 0;
+    CHECK(lipsync_read_packet(p, lay(w, 12, p), lend(), MOST, &written) == 32 && untouched());
+}
+
+static void rooms(void) {
+    const uint8_t bare[] = {0x00, 0x00, 0x02, 0x50, 0xAE};
+    unsigned words[12];
+    uint8_t p[24];
+    size_t written;
+    for (size_t room = 0; room < 300; room++) {
+        try_container(bare, 5, room);
+        try_wrap(bare, 5, room);
+        try_unwrap(p, lay(words, wrap(bare, 5, words), p), room);
+    }
+    CHECK(lipsync_read_container(bare, 5, NULL, 0) == 12);
+    CHECK(lipsync_write_packet(bare, 5, NULL, 0, &written) == 12 && written == 0);
+    CHECK(lipsync_read_packet(p, 24, NULL, 0, &written) == 12 && written == 0);
+}
+
+/* ---- 01, Video: width, HStart, HStep, and the taps before and after a pixel */
+
+static const struct { unsigned width, start, step, before, after; } formats[8] = {
+    {720, 123, 8, 0, 0}, {720, 123, 8, 0, 0}, {1280, 256, 13, 1, 0}, {1920, 399, 19, 1, 1}, {1920, 399, 19, 1, 1}, {2048, 463, 19, 1, 1},
+    {3840, 798, 38, 3, 2}, {4096, 926, 38, 3, 2}};
+
+static void lines(void) {
+    static uint8_t line[2 * 4096 + 2];
+    uint8_t pixels[60];
+    for (unsigned f = 0; f < 8; f++)
+        for (unsigned turn = 0; turn < 50; turn++) {
+            size_t size = 2 * formats[f].width;
+            for (size_t i = 0; i < sizeof line; i++) line[i] = turn ? (uint8_t)below(256) : 0xFF;
+            for (unsigned k = 0; k < 60; k++) {
+                unsigned first = formats[f].start + k * formats[f].step - formats[f].before, taps = formats[f].before + 1 + formats[f].after, sum = 0;
+                for (unsigned t = 0; t < taps; t++) sum += (line[2 * (first + t)] + 256u * line[2 * (first + t) + 1]) >> 2 & 0xFF;
+                pixels[k] = (uint8_t)(sum / taps);
+            }
+            size_t room = turn < 5 ? 60 : 40 + below(40);
+            int number = lipsync_sample_line((uint8_t)f, line, size, lend(), room);
+            seen[number]++;
+            CHECK(number == (room < 60 ? 12 : 0));
+            CHECK(holds(pixels, number == 0 ? 60 : 0));
+            CHECK(lipsync_sample_line((uint8_t)f, line, size - 2, lend(), 60) == 2 && untouched());
+            CHECK(lipsync_sample_line((uint8_t)f, line, size + 1, lend(), 0) == 2 && untouched());
+        }
+    for (unsigned f = 8; f < 256; f++) CHECK(lipsync_sample_line((uint8_t)f, line, 0, lend(), 0) == 1 && untouched());
+    CHECK(lipsync_sample_line(0, NULL, 0, NULL, 0) == 2);
+    CHECK(lipsync_sample_line(9, NULL, 0, NULL, 0) == 1);
+    CHECK(lipsync_sample_line(0, line, 1440, NULL, 0) == 12);
+}
+
+/* ---- damage, from the fixed seed */
+
+static void damage(void) {
+    uint8_t s[MOST], p[2 * MOST];
+    unsigned w[MOST];
+    for (int turn = 0; turn < 40000; turn++) {
+        size_t n = made(s);
+        size_t room = below(10) ? 600 : below(600);
+        if (turn % 4 == 0) {
+            try_container(s, n, room);
+            try_wrap(s, n, room);
+        }
+        if (turn % 4) n = damaged(s, n);
+        try_container(s, n, room);
+        try_wrap(s, n, room);
+        size_t words = wrap(s, n, w), size;
+        switch (below(6)) {
+        case 0: w[below((uint32_t)words)] ^= 1u << below(10); break;
+        case 1: w[below((uint32_t)words)] = below(1024); break;
+        case 2: w[below((uint32_t)words)] = below(8) ? with_parity(below(256)) : below(65536); break;
+        case 3: words = below(8) ? words - 1 : below((uint32_t)words); break;
+        case 4: w[words++] = below(1024); break;
+        default: break;
+        }
+        size = lay(w, words, p);
+        if (below(20) == 0 && size) size--;
+        try_unwrap(p, size, room);
+    }
+    for (int number = 20; number <= 36; number++)
+        if (number != 29) CHECK(seen[number] > 50);
+    CHECK(seen[0] > 10000 && seen[12] > 1000);
+}
+
+int main(void) {
+    figures();
+    container_refusals();
+    packet_refusals();
+    rooms();
+    lines();
+    damage();
+    printf("%lu\n", checks);
+    return 0;
+}
