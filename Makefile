@@ -1,5 +1,5 @@
 # The two commands: `make run` shows the software at work, `make test` proves and tests everything.
-.PHONY: run test lib bench
+.PHONY: run test lib bench fuzz
 
 run:
 	tools/run
@@ -15,3 +15,11 @@ lib:
 bench:
 	bench/video.sh
 	bench/audio.sh
+	bench/session.sh
+
+# N new random feeds of each kind; a feed on which the programs differ is kept under target/fuzz/.
+N ?= 100
+fuzz:
+	rt check card inspect
+	cargo build --quiet --release --offline --manifest-path second/Cargo.toml --target-dir target/second
+	tools/compare target/bin/card --inspect target/bin/inspect --random $(N)

@@ -1,0 +1,432 @@
+// The session's calls: the static library of crates/bench_session against a plain Rust session behind a `&mut`, written from document 01.
+use std::hint::black_box;
+use std::time::Instant;
+
+struct Format {
+    width: usize,
+    lines: usize,
+    hstart: usize,
+    hstep: usize,
+    vstart: [usize; 2], // 0: no field 2
+    vstep: usize,
+    before: usize,
+    taps: usize,
+}
+
+const fn format(width: usize, lines: usize, h: [usize; 2], vstart: [usize; 2], vstep: usize, before: usize, taps: usize) -> Format {
+    Format { width, lines, hstart: h[0], hstep: h[1], vstart, vstep, before, taps }
+}
+
+const FORMATS: [Format; 8] = [
+    format(720, 525, [123, 8], [60, 323], 10, 0, 1),
+    format(720, 625, [123, 8], [68, 381], 12, 0, 1),
+    format(1280, 750, [256, 13], [117, 0], 32, 1, 2),
+    format(1920, 1125, [399, 19], [89, 652], 24, 1, 3),
+    format(1920, 1125, [399, 19], [178, 0], 48, 1, 3),
+    format(2048, 1125, [463, 19], [206, 0], 46, 1, 3),
+    format(3840, 2250, [798, 38], [412, 0], 92, 3, 6),
+    format(4096, 2250, [926, 38], [412, 0], 92, 3, 6),
+];
+
+impl Format {
+    fn monitored(&self, number: usize) -> bool {
+        let among = |first: usize| number >= first && (number - first) % self.vstep == 0 && (number - first) / self.vstep < 16;
+        among(self.vstart[0]) || self.vstart[1] != 0 && among(self.vstart[1])
+    }
+
+    // A loop for each number of taps, as crates/sampling has it.
+    fn sample(&self, line: &[u8], out: &mut [u8]) {
+        let first = self.hstart - self.before;
+        match self.taps {
+            1 => fill::<1>(line, first, self.hstep, out),
+            2 => fill::<2>(line, first, self.hstep, out),
+            3 => fill::<3>(line, first, self.hstep, out),
+            _ => fill::<6>(line, first, self.hstep, out),
+        }
+    }
+}
+
+fn fill<const N: usize>(line: &[u8], first: usize, step: usize, out: &mut [u8]) {
+    for (k, byte) in out.iter_mut().enumerate() {
+        let from = 2 * (first + step * k);
+        let words = line[from..from + 2 * N].chunks_exact(2);
+        let sum: u32 = words.map(|w| (u16::from_le_bytes([w[0], w[1]]) >> 2 & 0xff) as u32).sum();
+        *byte = (sum / N as u32) as u8;
+    }
+}
+
+fn interval(rate: u8) -> u8 {
+    if [2, 4, 6, 10].contains(&rate) { 52 } else { 50 }
+}
+
+// (frames of the cadence, bytes at those named, those named from 1, bytes at the others)
+fn cadence(rate: u8) -> (usize, usize, &'static [usize], usize) {
+    match rate {
+        2 => (16, 4, &[1, 6, 11], 5),
+        3 => (1, 5, &[], 5),
+        4 => (32, 3, &[3, 5, 8, 10, 13, 15, 18, 20, 23, 25, 28, 30, 32], 2),
+        5 => (5, 4, &[1], 5),
+        6 => (20, 3, &[1, 7, 14], 4),
+        7 => (1, 4, &[], 4),
+        8 => (2, 2, &[1], 3),
+        9 => (5, 3, &[3, 5], 2),
+        10 => (40, 1, &[1, 14, 27], 2),
+        _ => (1, 2, &[], 2),
+    }
+}
+
+struct Print {
+    mix: u8,
+    envelope: u32,
+    mean: u32,
+    wait: u8,
+    started: bool,
+    held: usize,
+    bytes: [u8; 32],
+}
+
+fn sample(b: &[u8]) -> i32 {
+    i16::from_le_bytes([b[0], b[1]]) as i32
+}
+
+fn stereo(b: &[u8]) -> i32 {
+    (7071 * (sample(b) + sample(&b[2..]))).div_euclid(20000)
+}
+
+fn five(b: &[u8]) -> i32 {
+    (7071 * (sample(b) + sample(&b[2..])) + 10000 * sample(&b[4..]) + 5000 * (sample(&b[6..]) + sample(&b[8..]))).div_euclid(40000)
+}
+
+fn instant_bytes(mix: u8) -> usize {
+    [0, 2, 4, 0, 0, 10][mix as usize]
+}
+
+impl Print {
+    fn new(mix: u8) -> Print {
+        Print { mix, envelope: 0, mean: 0, wait: 0, started: false, held: 0, bytes: [0; 32] }
+    }
+
+    fn new_bits(&self, instants: usize, d: u8) -> usize {
+        if instants <= self.wait as usize { 0 } else { (instants - self.wait as usize).div_ceil(d as usize) }
+    }
+
+    fn step(&mut self, d: u8, m: i32) {
+        let a = if m < 0 { -m - 1 } else { m } as u32;
+        if self.started {
+            self.envelope = 8 * a + self.envelope - self.envelope / 1024;
+            self.mean = a + self.mean - self.mean / 8192;
+        }
+        self.started = true;
+        if self.wait == 0 {
+            if self.mean < self.envelope {
+                self.bytes[self.held / 8] |= 1 << (self.held % 8);
+            }
+            self.held += 1;
+            self.wait = d - 1;
+        } else {
+            self.wait -= 1;
+        }
+    }
+
+    fn hear(&mut self, d: u8, block: &[u8]) {
+        match self.mix {
+            1 => block.chunks_exact(2).for_each(|b| self.step(d, sample(b))),
+            2 => block.chunks_exact(4).for_each(|b| self.step(d, stereo(b))),
+            _ => block.chunks_exact(10).for_each(|b| self.step(d, five(b))),
+        }
+    }
+
+    fn shed(&mut self, n: usize) {
+        self.bytes.copy_within(n.., 0);
+        self.bytes[32 - n..].fill(0);
+        self.held -= 8 * n;
+    }
+}
+
+struct Session {
+    format: usize,
+    rate: u8,
+    prints: Vec<Print>,
+    older: [u8; 960],
+    newer: [u8; 960],
+    filling: [u8; 960],
+    row: usize,
+    held: u8,
+    field: usize,
+    first: Option<u8>,
+    ready: bool,
+    shown: Vec<u8>,
+    counter: u8,
+    place: usize,
+}
+
+// What a line tells: the field goes on, or it ended with no fingerprint, or with this one.
+#[derive(PartialEq)]
+enum Told {
+    Open,
+    Nothing,
+    Print(u8),
+}
+
+impl Session {
+    // Setup, for a format, a rate and mix types that 01 lists.
+    fn new(format: usize, rate: u8, mixes: &[u8]) -> Session {
+        Session {
+            format,
+            rate,
+            prints: mixes.iter().map(|&mix| Print::new(mix)).collect(),
+            older: [0; 960],
+            newer: [0; 960],
+            filling: [0; 960],
+            row: 0,
+            held: 0,
+            field: 1,
+            first: None,
+            ready: false,
+            shown: Vec::with_capacity(2),
+            counter: 0,
+            place: 0,
+        }
+    }
+
+    #[inline(never)]
+    fn line(&mut self, number: usize, line: &[u8]) -> Result<Told, u8> {
+        let f = &FORMATS[self.format];
+        if line.len() != 2 * f.width {
+            return Err(2);
+        }
+        if number < 1 || f.lines < number {
+            return Err(3);
+        }
+        if number != f.vstart[self.field - 1] + f.vstep * self.row {
+            return if f.monitored(number) { Err(4) } else { Ok(Told::Open) };
+        }
+        if self.ready {
+            return Err(5);
+        }
+        f.sample(line, &mut self.filling[60 * self.row..60 * self.row + 60]);
+        self.row += 1;
+        if self.row < 16 {
+            return Ok(Told::Open);
+        }
+        Ok(self.end_field(f.vstart[1] != 0))
+    }
+
+    fn end_field(&mut self, two: bool) -> Told {
+        let mut told = None;
+        if self.held < 2 {
+            self.held += 1;
+        } else {
+            let changed = self.filling.iter().zip(&self.older).filter(|(a, b)| a.abs_diff(**b) >= 32).count();
+            told = Some((changed / 4) as u8);
+        }
+        self.older = self.newer;
+        self.newer = self.filling;
+        self.row = 0;
+        if two && self.field == 1 {
+            self.field = 2;
+            self.first = told;
+        } else {
+            self.ready = true;
+            self.field = 1;
+            self.shown.clear();
+            match (two, self.first, told) {
+                (true, Some(a), Some(b)) => self.shown.extend([a, b]),
+                (false, _, Some(a)) => self.shown.push(a),
+                _ => (),
+            }
+        }
+        told.map_or(Told::Nothing, Told::Print)
+    }
+
+    #[inline(never)]
+    fn sound(&mut self, k: usize, block: &[u8]) -> Result<(), u8> {
+        let d = interval(self.rate);
+        let Some(p) = self.prints.get_mut(k) else { return Err(7) };
+        let size = instant_bytes(p.mix);
+        if block.len() % size != 0 {
+            return Err(8);
+        }
+        if p.held + p.new_bits(block.len() / size, d) > 256 {
+            return Err(9);
+        }
+        p.hear(d, block);
+        Ok(())
+    }
+
+    #[inline(never)]
+    fn pack(&mut self, id: &[u8], out: &mut [u8]) -> Result<usize, u8> {
+        if !self.ready {
+            return Err(10);
+        }
+        if id.len() != 0 && id.len() != 20 {
+            return Err(11);
+        }
+        let (frames, few, named, else_) = cadence(self.rate);
+        let due = if named.contains(&(self.place + 1)) { few } else { else_ };
+        let audio = self.prints.iter().all(|p| p.held >= 8 * due);
+        let mut size = 5;
+        size += if id.is_empty() { 0 } else { 21 };
+        size += if self.shown.is_empty() { 0 } else { 1 + self.shown.len() };
+        size += if audio { 1 + self.prints.len() * (2 + due) } else { 0 };
+        if size > 255 {
+            return Err(13);
+        }
+        if out.len() < size {
+            return Err(12);
+        }
+        self.write(id, audio, due, &mut out[..size]);
+        if audio {
+            self.prints.iter_mut().for_each(|p| p.shed(due));
+            self.place = (self.place + 1) % frames;
+        }
+        self.ready = false;
+        self.counter = self.counter.wrapping_add(1);
+        Ok(size)
+    }
+
+    fn write(&self, id: &[u8], audio: bool, due: usize, out: &mut [u8]) {
+        let flags = 4 * !id.is_empty() as u8 + 2 * !self.shown.is_empty() as u8 + audio as u8;
+        let length = (out.len() - 3) as u8;
+        let mut at = 0;
+        let mut put = |bytes: &[u8]| {
+            out[at..at + bytes.len()].copy_from_slice(bytes);
+            at += bytes.len();
+        };
+        put(&[0, self.counter, length, self.rate << 4 | flags]);
+        if !id.is_empty() {
+            put(&[0]);
+            put(id);
+        }
+        if !self.shown.is_empty() {
+            put(&[if self.shown.len() == 1 { 0x09 } else { 0x11 }]);
+            put(&self.shown);
+        }
+        if audio {
+            put(&[((self.prints.len() - 1) * 8 + 2) as u8]);
+            for (k, p) in self.prints.iter().enumerate() {
+                put(&[k as u8 * 8 + p.mix, due as u8 * 8]);
+                put(&p.bytes[..due]);
+            }
+        }
+        let sum = out[..at].iter().fold(0u8, |s, b| s.wrapping_add(*b));
+        out[at] = sum.wrapping_neg();
+    }
+}
+
+const INSTANTS: usize = 1920;
+const RUNS: usize = 1000;
+
+// What is measured, and on what: frames of 32 monitored lines, `extra` others and `blocks` sound blocks for each of two fingerprints.
+#[derive(Clone, Copy)]
+struct Load {
+    rounds: usize,
+    extra: usize,
+    blocks: usize,
+}
+
+struct Lent {
+    mix: u8,
+    even: Vec<u8>,
+    odd: Vec<u8>,
+    block: Vec<u8>,
+}
+
+extern "C" {
+    fn bench_session(
+        mix: u8, rounds: usize, extra: usize, blocks: usize, even: *const u8, even_size: usize, odd: *const u8, odd_size: usize, block: *const u8,
+        block_size: usize,
+    ) -> u64;
+}
+
+fn rattle(lent: &Lent, load: Load) -> u64 {
+    let (even, odd, block) = (&lent.even, &lent.odd, &lent.block);
+    unsafe {
+        bench_session(
+            lent.mix, load.rounds, load.extra, load.blocks, even.as_ptr(), even.len(), odd.as_ptr(), odd.len(), block.as_ptr(), block.len(),
+        )
+    }
+}
+
+// Panics where a call is refused: none of those measured is.
+fn rust(lent: &Lent, load: Load) -> u64 {
+    let mut s = Session::new(black_box(3), black_box(5), &[lent.mix; 2]);
+    let mut total = 0u64;
+    for i in 0..load.rounds {
+        let line = if i % 2 == 0 { &lent.even } else { &lent.odd };
+        for first in [89, 652] {
+            for k in 0..16 {
+                black_box(s.line(first + 24 * k, line).unwrap());
+            }
+        }
+        for _ in 0..load.extra {
+            black_box(s.line(1000, line).unwrap());
+        }
+        for _ in 0..load.blocks {
+            black_box(s.sound(0, &lent.block).unwrap());
+            black_box(s.sound(1, &lent.block).unwrap());
+        }
+        let mut out = [0u8; 32];
+        black_box(s.pack(&[], &mut out).unwrap());
+        total = out.iter().fold(total, |t, b| (31 * t + *b as u64) % 4294967296);
+    }
+    total
+}
+
+fn row(name: &str, [a, b]: [f64; 2]) {
+    println!("| {name} | {a:.0} | {b:.0} | {:.2} |", a / b);
+}
+
+// ns for each of so many calls, by which the second load exceeds the first, Rattle's and Rust's: from the least times of each, run in turn, so
+// that another load on the computer meets all alike.
+fn between(lent: &Lent, less: Load, more: Load, calls: usize) -> [f64; 2] {
+    let mut least = [[f64::MAX; 2]; 2];
+    for _ in 0..RUNS {
+        for (load, least) in [less, more].iter().zip(&mut least) {
+            let mut sums = [0; 2];
+            for i in 0..2 {
+                let began = Instant::now();
+                sums[i] = [rattle, rust][i](black_box(lent), black_box(*load));
+                least[i] = least[i].min(began.elapsed().as_secs_f64() * 1e9);
+            }
+            assert!(sums[0] == sums[1] && sums[0] > 0, "the two programs differ");
+        }
+    }
+    [0, 1].map(|i| (least[1][i] - least[0][i]) / calls as f64)
+}
+
+fn main() {
+    let mut x = 0x2545f491u32;
+    let mut random = || {
+        x ^= x << 13;
+        x ^= x >> 17;
+        x ^= x << 5;
+        x
+    };
+    let mut lent = |mix: u8| Lent {
+        mix,
+        even: (0..3840).map(|_| random() as u8).collect(),
+        odd: (0..3840).map(|_| random() as u8).collect(),
+        // loud and soft stretches, so that the bits differ
+        block: (0..INSTANTS * instant_bytes(mix) / 2).flat_map(|i| ((random() >> 16) as i16 >> (i / 97 % 12)).to_le_bytes()).collect(),
+    };
+    println!("| 1080i, 25 Hz, two fingerprints | Rattle, ns | Rust, ns | ratio |");
+    println!("|--|--|--|--|");
+    let load = |rounds, extra, blocks| Load { rounds, extra, blocks };
+    let two = lent(2);
+    row("Line, not monitored", between(&two, load(1, 0, 0), load(1, 1000, 0), 1000));
+    for (mix, name) in [(1, "mono"), (2, "stereo"), (5, "5.1")] {
+        let lent = lent(mix);
+        let long = load(600, 1, 1);
+        assert_eq!(rattle(&lent, long), rust(&lent, long), "the two programs differ where the counter has gone round");
+        // two blocks a frame have room for five frames: each is accepted, and each frame has audio with one block as with two
+        row(&format!("Sound, {INSTANTS} instants, {name}"), between(&lent, load(5, 0, 1), load(5, 0, 2), 10));
+    }
+    for (name, extra, blocks) in [
+        ("frame: 32 lines, Pack", 0, 0),
+        ("frame: 32 lines, two stereo Sound, Pack", 0, 1),
+        ("frame: all 1125 lines, two stereo Sound, Pack", 1093, 1),
+    ] {
+        row(name, between(&two, load(2, extra, blocks), load(7, extra, blocks), 5));
+    }
+}

@@ -1,0 +1,2 @@
+-- The laws and theorems; a function's own proof stands in the folder of its name.
+pub mod Unique

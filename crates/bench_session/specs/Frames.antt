@@ -1,0 +1,60 @@
+-- The frames that are measured: what the session's calls make of their lines and sound, and a sum over the bytes of their containers.
+use Prim.Native.Nat.{ℕ, zero, suc, _+_, _*_, _%_}
+use mathlib.Core.List.{List, [], _∷_}
+use mathlib.Core.Bool.{cond}
+use lib.Dec.{eqb}
+use lib.ListN.{getD, replicate}
+use Rattle.session.specs.declared.Session.{Session}
+use Rattle.session.specs.Session.{setupOf, lineOf, soundOf}
+use Rattle.session.specs.Packing.{packOf, packOut}
+use Rattle.bench_session.specs.declared.Turn.{Turn}
+
+-- 1080i at 25 Hz, with two fingerprints of one mix type
+unfoldable pub begunWith : ℕ → Session
+begunWith mix = setupOf 3 5 (mix ∷ mix ∷ []) .session
+
+-- the first n lines of the field whose first is this one (01, Video: VStep 24)
+unfoldable pub fieldLines : Session → ℕ → List ℕ → ℕ → Session
+fieldLines s first line zero = s
+fieldLines s first line (suc n) = lineOf (fieldLines s first line n) (first + 24 * n) line .session
+
+-- line 1000, which is not monitored, n times
+unfoldable pub otherLines : Session → List ℕ → ℕ → Session
+otherLines s line zero = s
+otherLines s line (suc n) = lineOf (otherLines s line n) 1000 line .session
+
+-- n blocks for each of the two fingerprints
+unfoldable pub sounds : Session → List ℕ → ℕ → Session
+sounds s block zero = s
+sounds s block (suc n) = soundOf (soundOf (sounds s block n) 0 block .session) 1 block .session
+
+-- the lines of both fields (VStart 89 and 652), `extra` that are not monitored, and the sound
+unfoldable pub filledWith : ℕ → ℕ → List ℕ → List ℕ → Session → Session
+filledWith extra blocks line block s = sounds (otherLines (fieldLines (fieldLines s 89 line 16) 652 line 16) line extra) block blocks
+
+-- a sum that tells the order of the bytes
+unfoldable pub byteIn : ℕ → ℕ → ℕ
+byteIn sum b = (sum * 31 + b) % 4294967296
+
+-- the first n bytes
+unfoldable pub bytesIn : ℕ → List ℕ → ℕ → ℕ
+bytesIn sum l zero = sum
+bytesIn sum l (suc n) = byteIn (bytesIn sum l n) (getD l n 0)
+
+-- a frame is filled and packed, with no ID, into 32 bytes that were zero
+unfoldable pub frameOf : ℕ → ℕ → List ℕ → List ℕ → Turn → Turn
+frameOf extra blocks line block t = record {
+  session = packOf (filledWith extra blocks line block (t .session)) [] 32 .session;
+  sum = bytesIn (t .sum) (packOut (filledWith extra blocks line block (t .session)) [] (replicate 32 0)) 32;
+}
+
+-- the frames have the two lines in turn
+unfoldable pub lineAt : List ℕ → List ℕ → ℕ → List ℕ
+lineAt even odd i = cond (eqb (i % 2) 0) even odd
+
+unfoldable pub turns : ℕ → ℕ → ℕ → List ℕ → List ℕ → List ℕ → ℕ → Turn
+turns mix extra blocks even odd block zero = record { session = begunWith mix; sum = 0 }
+turns mix extra blocks even odd block (suc n) = frameOf extra blocks (lineAt even odd n) block (turns mix extra blocks even odd block n)
+
+unfoldable pub sumAfter : ℕ → ℕ → ℕ → List ℕ → List ℕ → List ℕ → ℕ → ℕ
+sumAfter mix extra blocks even odd block rounds = turns mix extra blocks even odd block rounds .sum

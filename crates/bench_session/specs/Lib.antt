@@ -1,0 +1,2 @@
+-- The definitions: the frames that are measured.
+pub mod Frames

@@ -1,0 +1,10 @@
+pub mod Parts
+pub mod Hex
+pub mod Watch
+pub mod Ends
+pub mod Kept
+pub mod Rooms
+pub mod Steps
+pub mod Sizes
+pub mod Opening
+pub mod Unique

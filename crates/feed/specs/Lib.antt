@@ -1,0 +1,5 @@
+pub mod Words
+pub mod Lines
+pub mod Alone
+pub mod Calls
+pub mod Feed

@@ -1,0 +1,36 @@
+#!/usr/bin/env bash
+# Runs `card` on a small feed of each format, and of each rate code, and compares what it prints with the second program, byte for byte.
+# The feeds are made as they are needed (tools/sample-feed). Needs target/bin/card (rt check card) and the second program:
+#   cargo build --release --offline --manifest-path second/Cargo.toml --target-dir target/second
+set -euo pipefail
+cd "$(dirname "$0")/.."
+card=target/bin/card
+second=${1:-target/second/release/second}
+folder=$(mktemp -d)
+trap 'rm -rf "$folder"' EXIT
+count=0
+
+try() {
+  tools/sample-feed "$@" > "$folder/feed"
+  "$card" < "$folder/feed" > "$folder/card"
+  "$second" < "$folder/feed" > "$folder/second"
+  if ! cmp -s "$folder/card" "$folder/second"; then
+    echo "feeds: sample-feed $*: card and the second program differ" >&2
+    diff "$folder/second" "$folder/card" | head -n 5 >&2 || true
+    exit 1
+  fi
+  if ! grep -q '^line 0 field [0-9]' "$folder/card" || ! grep -q '^pack 0' "$folder/card"; then
+    echo "feeds: sample-feed $*: no fingerprint or no container came" >&2
+    exit 1
+  fi
+  count=$((count + 1))
+}
+
+for format in 0 1 2 3 4 5 6 7; do
+  try --format "$format" --frames 5 --prints 5
+done
+for rate in 2 3 4 5 6 7 8 9 10 11; do
+  try --format 2 --rate "$rate" --frames 45 --prints 2
+done
+try --format 3 --frames 4 --prints 32
+echo "feeds: $count feeds alike"
