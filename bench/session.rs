@@ -337,7 +337,13 @@ extern "C" {
         mix: u8, rounds: usize, extra: usize, blocks: usize, even: *const u8, even_size: usize, odd: *const u8, odd_size: usize, block: *const u8,
         block_size: usize,
     ) -> u64;
+    fn bench_pack(
+        mix: u8, rounds: usize, blocks: usize, even: *const u8, even_size: usize, odd: *const u8, odd_size: usize, block: *const u8, block_size: usize,
+    ) -> u64;
 }
+
+// Rattle's and Rust's, for one load.
+type Programs = [fn(&Lent, Load) -> u64; 2];
 
 fn rattle(lent: &Lent, load: Load) -> u64 {
     let (even, odd, block) = (&lent.even, &lent.odd, &lent.block);
@@ -348,27 +354,63 @@ fn rattle(lent: &Lent, load: Load) -> u64 {
     }
 }
 
+fn rattle_packs(lent: &Lent, load: Load) -> u64 {
+    let (even, odd, block) = (&lent.even, &lent.odd, &lent.block);
+    unsafe { bench_pack(lent.mix, load.rounds, load.blocks, even.as_ptr(), even.len(), odd.as_ptr(), odd.len(), block.as_ptr(), block.len()) }
+}
+
+// What Pack changes is put back after each, so that the next finds the session as it was.
+fn rust_packs(lent: &Lent, load: Load) -> u64 {
+    let mut s = Session::new(black_box(3), black_box(5), &[lent.mix; 2]);
+    let mut out = [0u8; 32];
+    filled(&mut s, &lent.even, lent, load);
+    s.pack(&[], &mut out).unwrap();
+    filled(&mut s, &lent.odd, lent, load);
+    let (place, counter) = (s.place, s.counter);
+    let prints: Vec<([u8; 32], usize)> = s.prints.iter().map(|p| (p.bytes, p.held)).collect();
+    let mut total = 0u64;
+    for _ in 0..load.rounds {
+        let mut out = [0u8; 32];
+        black_box(s.pack(&[], &mut out).unwrap());
+        total = sum_in(total, &out);
+        (s.ready, s.place, s.counter) = (true, place, counter);
+        for (p, q) in s.prints.iter_mut().zip(&prints) {
+            (p.bytes, p.held) = *q;
+        }
+    }
+    total
+}
+
+fn sum_in(total: u64, out: &[u8; 32]) -> u64 {
+    out.iter().fold(total, |t, b| (31 * t + *b as u64) % 4294967296)
+}
+
+// A frame that is ready, with its sound.
+fn filled(s: &mut Session, line: &[u8], lent: &Lent, load: Load) {
+    for first in [89, 652] {
+        for k in 0..16 {
+            black_box(s.line(first + 24 * k, line).unwrap());
+        }
+    }
+    for _ in 0..load.extra {
+        black_box(s.line(1000, line).unwrap());
+    }
+    for _ in 0..load.blocks {
+        black_box(s.sound(0, &lent.block).unwrap());
+        black_box(s.sound(1, &lent.block).unwrap());
+    }
+}
+
 // Panics where a call is refused: none of those measured is.
 fn rust(lent: &Lent, load: Load) -> u64 {
     let mut s = Session::new(black_box(3), black_box(5), &[lent.mix; 2]);
     let mut total = 0u64;
     for i in 0..load.rounds {
         let line = if i % 2 == 0 { &lent.even } else { &lent.odd };
-        for first in [89, 652] {
-            for k in 0..16 {
-                black_box(s.line(first + 24 * k, line).unwrap());
-            }
-        }
-        for _ in 0..load.extra {
-            black_box(s.line(1000, line).unwrap());
-        }
-        for _ in 0..load.blocks {
-            black_box(s.sound(0, &lent.block).unwrap());
-            black_box(s.sound(1, &lent.block).unwrap());
-        }
+        filled(&mut s, line, lent, load);
         let mut out = [0u8; 32];
         black_box(s.pack(&[], &mut out).unwrap());
-        total = out.iter().fold(total, |t, b| (31 * t + *b as u64) % 4294967296);
+        total = sum_in(total, &out);
     }
     total
 }
@@ -379,14 +421,14 @@ fn row(name: &str, [a, b]: [f64; 2]) {
 
 // ns for each of so many calls, by which the second load exceeds the first, Rattle's and Rust's: from the least times of each, run in turn, so
 // that another load on the computer meets all alike.
-fn between(lent: &Lent, less: Load, more: Load, calls: usize) -> [f64; 2] {
+fn between(programs: Programs, lent: &Lent, less: Load, more: Load, calls: usize) -> [f64; 2] {
     let mut least = [[f64::MAX; 2]; 2];
     for _ in 0..RUNS {
         for (load, least) in [less, more].iter().zip(&mut least) {
             let mut sums = [0; 2];
             for i in 0..2 {
                 let began = Instant::now();
-                sums[i] = [rattle, rust][i](black_box(lent), black_box(*load));
+                sums[i] = programs[i](black_box(lent), black_box(*load));
                 least[i] = least[i].min(began.elapsed().as_secs_f64() * 1e9);
             }
             assert!(sums[0] == sums[1] && sums[0] > 0, "the two programs differ");
@@ -413,20 +455,24 @@ fn main() {
     println!("| 1080i, 25 Hz, two fingerprints | Rattle, ns | Rust, ns | ratio |");
     println!("|--|--|--|--|");
     let load = |rounds, extra, blocks| Load { rounds, extra, blocks };
+    let calls: Programs = [rattle, rust];
+    let packs: Programs = [rattle_packs, rust_packs];
     let two = lent(2);
-    row("Line, not monitored", between(&two, load(1, 0, 0), load(1, 1000, 0), 1000));
+    row("Line, not monitored", between(calls, &two, load(1, 0, 0), load(1, 1000, 0), 1000));
     for (mix, name) in [(1, "mono"), (2, "stereo"), (5, "5.1")] {
         let lent = lent(mix);
         let long = load(600, 1, 1);
         assert_eq!(rattle(&lent, long), rust(&lent, long), "the two programs differ where the counter has gone round");
         // two blocks a frame have room for five frames: each is accepted, and each frame has audio with one block as with two
-        row(&format!("Sound, {INSTANTS} instants, {name}"), between(&lent, load(5, 0, 1), load(5, 0, 2), 10));
+        row(&format!("Sound, {INSTANTS} instants, {name}"), between(calls, &lent, load(5, 0, 1), load(5, 0, 2), 10));
     }
+    row("Pack, video alone", between(packs, &two, load(10, 0, 0), load(1010, 0, 0), 1000));
+    row("Pack, video and two fingerprints", between(packs, &two, load(10, 0, 1), load(1010, 0, 1), 1000));
     for (name, extra, blocks) in [
         ("frame: 32 lines, Pack", 0, 0),
         ("frame: 32 lines, two stereo Sound, Pack", 0, 1),
         ("frame: all 1125 lines, two stereo Sound, Pack", 1093, 1),
     ] {
-        row(name, between(&two, load(2, extra, blocks), load(7, extra, blocks), 5));
+        row(name, between(calls, &two, load(2, extra, blocks), load(7, extra, blocks), 5));
     }
 }

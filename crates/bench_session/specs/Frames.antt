@@ -58,3 +58,12 @@ turns mix extra blocks even odd block (suc n) = frameOf extra blocks (lineAt eve
 
 unfoldable pub sumAfter : ℕ → ℕ → ℕ → List ℕ → List ℕ → List ℕ → ℕ → ℕ
 sumAfter mix extra blocks even odd block rounds = turns mix extra blocks even odd block rounds .sum
+
+-- the second frame, ready: the first that has video values
+unfoldable pub secondWith : ℕ → ℕ → List ℕ → List ℕ → List ℕ → Session
+secondWith mix blocks even odd block = filledWith 0 blocks odd block (frameOf 0 blocks even block (record { session = begunWith mix; sum = 0 }) .session)
+
+-- one session's container, n times
+unfoldable pub packings : Session → ℕ → ℕ
+packings s zero = 0
+packings s (suc n) = bytesIn (packings s n) (packOut s [] (replicate 32 0)) 32

@@ -2,7 +2,7 @@
 use session::Session;
 ghost use mathlib.Core.Path.{_≡_};
 ghost use Prim.Native.Nat.{_<_, _≤_};
-ghost use Rattle.bench_session.specs.Frames.{fieldLines, otherLines, sounds, filledWith, byteIn, bytesIn, frameOf, lineAt, sumAfter};
+ghost use Rattle.bench_session.specs.Frames.{fieldLines, otherLines, sounds, filledWith, byteIn, bytesIn, frameOf, lineAt, sumAfter, packings, secondWith};
 
 struct Turn {
     session: Session,
@@ -98,6 +98,21 @@ fn frame(t: Turn, extra: usize, blocks: usize, line: &[u8], block: &[u8]) -> Tur
     Turn { session: next, sum }
 }
 
+// So many packings of one session that is ready: it is a value, and each finds it as it was.
+fn packed_again(ready: Session, rounds: usize, line: &[u8]) -> u64
+    ensures { λ r. ⌜ r ≡ packings ready rounds ⌝ }
+{
+    let mut sum = 0;
+    let mut i = 0;
+    while i < rounds {
+        let mut out = [0u8; 32];
+        let packed = session::pack(ready, &line[..0], &mut out);
+        sum = bytes_in(sum, &out);
+        i += 1;
+    }
+    sum
+}
+
 // Frame i, counted from 0: the even ones have the first line, the odd ones the second.
 fn frame_at(
     i: usize,
@@ -140,4 +155,26 @@ pub extern "C" fn bench_session(
         i += 1;
     }
     t.sum
+}
+
+// A sum over the containers of so many packings of one second frame.
+#[no_mangle]
+pub extern "C" fn bench_pack(
+    mix: u8,
+    rounds: usize,
+    blocks: usize,
+    even: &[u8],
+    odd: &[u8],
+    block: &[u8],
+) -> u64
+    ensures { λ r. ⌜ r ≡ packings (secondWith mix blocks (now (even .entry)) (now (odd .entry)) (now (block .entry))) rounds ⌝ }
+{
+    let mixes = [mix, mix];
+    let begun = session::setup(3, 5, &mixes);
+    let s = begun.session;
+    let t = Turn { session: s, sum: 0 };
+    let first = frame(t, 0, blocks, even, block);
+    let between = first.session;
+    let ready = filled(between, 0, blocks, odd, block);
+    packed_again(ready, rounds, even)
 }

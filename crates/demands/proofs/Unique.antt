@@ -17,4 +17,4 @@ pub use Rattle.records.proofs.Unique.{pair-at-unique as records-pair-at, record
 pub use Rattle.feed.proofs.Unique.{open-unique as feed-open, call-unique as feed-call, next-unique as feed-next}
 pub use Rattle.bench_video.proofs.Unique.{bench-sample-unique as bench-sample, bench-lines-unique as bench-lines}
 pub use Rattle.bench_audio.proofs.Unique.{bench-audio-unique as bench-audio}
-pub use Rattle.bench_session.proofs.Unique.{bench-session-unique as bench-session}
+pub use Rattle.bench_session.proofs.Unique.{bench-session-unique as bench-session, bench-pack-unique as bench-pack}

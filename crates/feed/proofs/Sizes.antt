@@ -24,7 +24,7 @@ use Rattle.session.specs.Packing.{packOf}
 use Rattle.feed.specs.Words.{setup, line, sound, pack, sample, rewrite, wrap, unwrap, write, field, videoRestart, audioRestart}
 use Rattle.feed.specs.Lines.{Answer, prints, badRecord, numbered, hexPart, untouched, handedText, handed}
 use Rattle.feed.specs.Alone.{hasRoom, sampleAnswer, sampleFed, readFed, rewriteAnswer, wrapAnswer, unwrapAnswer, writeAnswer, lentAnswer, roomFed, aloneFed}
-use Rattle.feed.specs.Calls.{Step, begun, toldText, lineAnswer, lined, sounded, doneOf, packed, setupFed, lineFed, soundFed, packInto, packFed, videoRestartFed, audioRestartFed, sessionFed}
+use Rattle.feed.specs.Calls.{Step, begun, toldText, lineAnswer, lined, sounded, doneOf, packed, setupFed, lineFed, soundFed, packInto, packFed, restartFed, sessionFed}
 use Rattle.feed.specs.Feed.{fed, feedEnd, fedRecord, fedNext}
 use Rattle.feed.proofs.Watch.{hex-part-size}
 use Rattle.feed.proofs.Kept.{Kept, sample-kept, write-kept, wrap-kept, unwrap-kept, rewrite-kept}
@@ -103,7 +103,7 @@ pack-fits s p =
     (λ _. bad-fits)
 
 session-fits : (s : Session) (tag : ℕ) (p : List ℕ) → StepFits (sessionFed s tag p)
-unfolding sessionFed setupFed begun lineFed lined soundFed sounded videoRestartFed audioRestartFed
+unfolding sessionFed setupFed begun lineFed lined soundFed sounded restartFed
 session-fits s tag p =
     chosen StepFits (eqb tag 0x10) _ _
     (λ _. chosen StepFits (leb 2 (length p)) _ _ (λ _. numbered-fits setup (setupOf (byteAt p 0) (byteAt p 1) (drop 2 p) .number) (omega arith)) (λ _. bad-fits))

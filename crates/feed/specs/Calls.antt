@@ -79,13 +79,9 @@ packInto s id lent = packed (packOf s id (length lent)) (packOut s id lent)
 unfoldable pub packFed : Session → List ℕ → Step
 packFed s p = cond (hasRoom p 0) (packInto s (drop 2 p) (untouched (pairAt p 0))) (step badRecord s)
 
--- 14h: "nothing"
-unfoldable pub videoRestartFed : Session → List ℕ → Step
-videoRestartFed s p = cond (eqb (length p) 0) (step (prints videoRestart) (videoRestarted s)) (step badRecord s)
-
--- 15h: "nothing"
-unfoldable pub audioRestartFed : Session → List ℕ → Step
-audioRestartFed s p = cond (eqb (length p) 0) (step (prints audioRestart) (audioRestarted s)) (step badRecord s)
+-- 14h, 15h: "nothing"; the session goes on as the restart leaves it
+unfoldable pub restartFed : Session → Session → List ℕ → List ℕ → Step
+restartFed s next word p = cond (eqb (length p) 0) (step (prints word) next) (step badRecord s)
 
 unfoldable pub sessionFed : Session → ℕ → List ℕ → Step
 sessionFed s tag p =
@@ -93,6 +89,6 @@ sessionFed s tag p =
     (cond (eqb tag 0x11) (lineFed s p)
     (cond (eqb tag 0x12) (soundFed s p)
     (cond (eqb tag 0x13) (packFed s p)
-    (cond (eqb tag 0x14) (videoRestartFed s p)
-    (cond (eqb tag 0x15) (audioRestartFed s p)
+    (cond (eqb tag 0x14) (restartFed s (videoRestarted s) videoRestart p)
+    (cond (eqb tag 0x15) (restartFed s (audioRestarted s) audioRestart p)
     (step badRecord s))))))

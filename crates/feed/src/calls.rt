@@ -5,7 +5,7 @@ ghost use Prim.Native.Nat.{_+_, _≤_};
 ghost use lib.ListN.{length};
 ghost use lib.Seq.{sets};
 ghost use Rattle.feed.specs.Lines.{saidOf, badRecord, isUntouched};
-ghost use Rattle.feed.specs.Calls.{fedOf, step, toldText, lineAnswer, setupFed, lineFed, soundFed, packInto, packFed, videoRestartFed, audioRestartFed, sessionFed};
+ghost use Rattle.feed.specs.Calls.{fedOf, step, toldText, lineAnswer, setupFed, lineFed, soundFed, packInto, packFed, restartFed, sessionFed};
 use crate::Fed;
 use crate::Said;
 use crate::alone::has_room;
@@ -122,28 +122,15 @@ fn pack(s: Session, payload: &[u8], out: &mut [u8]) -> Fed
     pack_into(s, &payload[2..], &mut lent[..room], out)
 }
 
-fn video_restart(s: Session, payload: &[u8], out: &mut [u8]) -> Fed
-    ensures { λ r. ⌜ (r ≡ fedOf (videoRestartFed s (now (payload .entry)))) × (now (out .exit) ≡ sets (now (out .entry)) 0 (videoRestartFed s (now (payload .entry)) .answer .line)) ⌝ }
+// A restart has no payload.
+fn restart(s: Session, next: Session, word: &[u8], payload: &[u8], out: &mut [u8]) -> Fed
+    requires { ⌜ length (now word) ≤ 16 ⌝ }
+    ensures { λ r. ⌜ (r ≡ fedOf (restartFed s next (now (word .entry)) (now (payload .entry)))) × (now (out .exit) ≡ sets (now (out .entry)) 0 (restartFed s next (now (word .entry)) (now (payload .entry)) .answer .line)) ⌝ }
 {
     if payload.len() != 0 {
         return bad(s, out);
     }
-    let next = session::video_restart(s);
-    let said = say(b"video restart", out);
-    Fed {
-        said,
-        session: next,
-    }
-}
-
-fn audio_restart(s: Session, payload: &[u8], out: &mut [u8]) -> Fed
-    ensures { λ r. ⌜ (r ≡ fedOf (audioRestartFed s (now (payload .entry)))) × (now (out .exit) ≡ sets (now (out .entry)) 0 (audioRestartFed s (now (payload .entry)) .answer .line)) ⌝ }
-{
-    if payload.len() != 0 {
-        return bad(s, out);
-    }
-    let next = session::audio_restart(s);
-    let said = say(b"audio restart", out);
+    let said = say(word, out);
     Fed {
         said,
         session: next,
@@ -166,10 +153,12 @@ pub(crate) fn on_session(s: Session, tag: u8, payload: &[u8], out: &mut [u8]) ->
         return pack(s, payload, out);
     }
     if tag == 0x14 {
-        return video_restart(s, payload, out);
+        let next = session::video_restart(s);
+        return restart(s, next, b"video restart", payload, out);
     }
     if tag == 0x15 {
-        return audio_restart(s, payload, out);
+        let next = session::audio_restart(s);
+        return restart(s, next, b"audio restart", payload, out);
     }
     bad(s, out)
 }

@@ -1,11 +1,13 @@
 -- `feed::calls::on_session` meets its contract: each call by its tag.
 use Prim.Native.Nat.{ℕ}
-use mathlib.Core.Path.{_≡_}
+use mathlib.Core.Path.{_≡_, ap, _∙_}
 use mathlib.Core.List.{List}
 use borrow.Author.Tests.{eq-eqb, ne-eqb}
 use Rattle.session.specs.declared.Session.{Session}
+use Rattle.session.specs.Session.{videoRestarted, audioRestarted}
+use Rattle.feed.specs.Words.{videoRestart, audioRestart}
 use Rattle.feed.specs.Lines.{badRecord}
-use Rattle.feed.specs.Calls.{step, setupFed, lineFed, soundFed, packFed, videoRestartFed, audioRestartFed, sessionFed}
+use Rattle.feed.specs.Calls.{step, setupFed, lineFed, soundFed, packFed, restartFed, sessionFed}
 use Rattle.feed.proofs.Steps.{as-fed}
 use borrow.Author.Needs.{needs}
 use Rattle.feed.proofs.calls.on_session.Statement.{statement}
@@ -32,12 +34,12 @@ module _ (s : Session) (tag : ℕ) (p : List ℕ) where
         by-13 h = rw (ne-eqb tag 0x10 n10, ne-eqb tag 0x11 n11, ne-eqb tag 0x12 n12, eq-eqb tag 0x13 h)
 
         module _ (n13 : tag ≡ 0x13 → ⊥) where
-          by-14 : tag ≡ 0x14 → videoRestartFed s p ≡ sessionFed s tag p
+          by-14 : tag ≡ 0x14 → restartFed s (videoRestarted s) videoRestart p ≡ sessionFed s tag p
           unfolding sessionFed
           by-14 h = rw (ne-eqb tag 0x10 n10, ne-eqb tag 0x11 n11, ne-eqb tag 0x12 n12, ne-eqb tag 0x13 n13, eq-eqb tag 0x14 h)
 
           module _ (n14 : tag ≡ 0x14 → ⊥) where
-            by-15 : tag ≡ 0x15 → audioRestartFed s p ≡ sessionFed s tag p
+            by-15 : tag ≡ 0x15 → restartFed s (audioRestarted s) audioRestart p ≡ sessionFed s tag p
             unfolding sessionFed
             by-15 h = rw (ne-eqb tag 0x10 n10, ne-eqb tag 0x11 n11, ne-eqb tag 0x12 n12, ne-eqb tag 0x13 n13, ne-eqb tag 0x14 n14, eq-eqb tag 0x15 h)
 
@@ -92,24 +94,36 @@ returns-4 c =
 video-restart-requires : tie.Need-video-restart-requires
 video-restart-requires c κs = search needs
 
+slice-aggregate-restart : tie.Need-slice-aggregate-restart
+slice-aggregate-restart c = search needs
+
+restart-requires : tie.Need-restart-requires
+restart-requires c κs = search needs
+
 same-length-5 : tie.Need-same-length-5
 same-length-5 c = search needs
 
 returns-5 : tie.Need-returns-5
 returns-5 c =
-    let a = c .before .before .before .before .before .before .before .before .before .before .before .args in
-    as-fed _ _ _ _ _ (by-14 (a .s) (a .tag) (a .payload .now) (c .before .before .before .before .before .before .before .before .if1 .left) (c .before .before .before .before .before .before .before .if2 .left) (c .before .before .before .before .before .before .if3 .left) (c .before .before .before .before .before .if4 .left) (c .before .before .before .before .if5 .taken)) (c .before .before .video-restart .ensures)
+    let a = c .before .before .before .before .before .before .before .before .before .before .before .before .before .args in
+    as-fed _ _ _ _ _ (ap (λ (n : Session). restartFed (a .s) n videoRestart (a .payload .now)) (c .before .before .before .before .before .video-restart .ensures) ∙ by-14 (a .s) (a .tag) (a .payload .now) (c .before .before .before .before .before .before .before .before .before .before .if1 .left) (c .before .before .before .before .before .before .before .before .before .if2 .left) (c .before .before .before .before .before .before .before .before .if3 .left) (c .before .before .before .before .before .before .before .if4 .left) (c .before .before .before .before .before .before .if5 .taken)) (c .before .before .restart .ensures)
 
 audio-restart-requires : tie.Need-audio-restart-requires
 audio-restart-requires c κs = search needs
+
+slice-aggregate-restart-2 : tie.Need-slice-aggregate-restart-2
+slice-aggregate-restart-2 c = search needs
+
+restart-requires-2 : tie.Need-restart-requires-2
+restart-requires-2 c κs = search needs
 
 same-length-6 : tie.Need-same-length-6
 same-length-6 c = search needs
 
 returns-6 : tie.Need-returns-6
 returns-6 c =
-    let a = c .before .before .before .before .before .before .before .before .before .before .before .before .args in
-    as-fed _ _ _ _ _ (by-15 (a .s) (a .tag) (a .payload .now) (c .before .before .before .before .before .before .before .before .before .if1 .left) (c .before .before .before .before .before .before .before .before .if2 .left) (c .before .before .before .before .before .before .before .if3 .left) (c .before .before .before .before .before .before .if4 .left) (c .before .before .before .before .before .if5 .left) (c .before .before .before .before .if6 .taken)) (c .before .before .audio-restart .ensures)
+    let a = c .before .before .before .before .before .before .before .before .before .before .before .before .before .before .args in
+    as-fed _ _ _ _ _ (ap (λ (n : Session). restartFed (a .s) n audioRestart (a .payload .now)) (c .before .before .before .before .before .audio-restart .ensures) ∙ by-15 (a .s) (a .tag) (a .payload .now) (c .before .before .before .before .before .before .before .before .before .before .before .if1 .left) (c .before .before .before .before .before .before .before .before .before .before .if2 .left) (c .before .before .before .before .before .before .before .before .before .if3 .left) (c .before .before .before .before .before .before .before .before .if4 .left) (c .before .before .before .before .before .before .before .if5 .left) (c .before .before .before .before .before .before .if6 .taken)) (c .before .before .restart2 .ensures)
 
 bad-requires : tie.Need-bad-requires
 bad-requires c κs = search needs
@@ -139,9 +153,13 @@ on-session-spec =
     same-length-4
     returns-4
     video-restart-requires
+    slice-aggregate-restart
+    restart-requires
     same-length-5
     returns-5
     audio-restart-requires
+    slice-aggregate-restart-2
+    restart-requires-2
     same-length-6
     returns-6
     bad-requires
