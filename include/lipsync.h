@@ -56,10 +56,10 @@ enum {
 };
 
 /*
- * Reads a container and writes its contents, flat, to the first 283 bytes of out.
+ * Reads a container and writes its contents, flat, to the first 283 bytes of out. *written is 283, or 0 on a refusal.
  * Refusals: 20 to 28, then 12 where room is under 283.
  */
-uint8_t lipsync_read_container(const uint8_t *bytes, size_t length, uint8_t *out, size_t room);
+uint8_t lipsync_read_container(const uint8_t *bytes, size_t length, uint8_t *out, size_t room, size_t *written);
 
 /*
  * Wraps a container in an ancillary packet: 2 x length + 14 bytes, two for each word, low byte first. *written is how many bytes were written, 0 on a refusal.
@@ -75,10 +75,10 @@ uint8_t lipsync_read_packet(const uint8_t *words, size_t length, uint8_t *out, s
 
 /*
  * Samples one line of a format, 0 to 7 (485i, 576i, 720p, 1080i, 1080p, 2048x1080p, 3840x2160p, 4096x2160p), lent as two bytes for each sample, low byte
- * first, and writes its 60 bytes to out.
+ * first, and writes its 60 bytes to out. *written is 60, or 0 on a refusal.
  * Refusals: 1 format, 2 length not 2 x width, then 12 where room is under 60.
  */
-uint8_t lipsync_sample_line(uint8_t format, const uint8_t *line, size_t length, uint8_t *out, size_t room);
+uint8_t lipsync_sample_line(uint8_t format, const uint8_t *line, size_t length, uint8_t *out, size_t room, size_t *written);
 
 #ifdef __cplusplus
 }

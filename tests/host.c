@@ -163,16 +163,20 @@ static int judge_packet(const uint8_t *s, size_t size, uint8_t *container, size_
 
 static int seen[64];
 
+/* the written length of the newest reading or sampling */
+static size_t count = 99;
+
 static void try_container(const uint8_t *s, size_t n, size_t room) {
     uint8_t flat[283], copy[MOST];
     if (n) memcpy(copy, s, n);
     int expected = judge_container(s, n, flat);
     if (expected == 0 && room < 283) expected = 12;
     uint8_t *out = lend();
-    int number = lipsync_read_container(s, n, out, room);
+    int number = lipsync_read_container(s, n, out, room, &count);
     seen[number]++;
     CHECK(number == expected);
-    CHECK(holds(flat, number == 0 ? 283 : 0));
+    CHECK(count == (number == 0 ? 283 : 0));
+    CHECK(holds(flat, count));
     CHECK(n == 0 || memcmp(copy, s, n) == 0);
 }
 
@@ -274,7 +278,7 @@ static void figures(void) {
     size_t written;
 
     flat[1] = 5;
-    CHECK(lipsync_read_container(bare, sizeof bare, lend(), 283) == 0);
+    CHECK(lipsync_read_container(bare, sizeof bare, lend(), 283, &count) == 0);
     CHECK(holds(flat, 283));
     lay(words, 12, packet);
     CHECK(lipsync_write_packet(bare, sizeof bare, lend(), MOST, &written) == 0 && written == 24);
@@ -285,7 +289,7 @@ static void figures(void) {
     flat[0] = 7;
     flat[23] = 1;
     flat[24] = 240;
-    CHECK(lipsync_read_container(video, sizeof video, lend(), 283) == 0);
+    CHECK(lipsync_read_container(video, sizeof video, lend(), 283, &count) == 0);
     CHECK(holds(flat, 283));
 
     memset(flat, 0, sizeof flat);
@@ -295,10 +299,10 @@ static void figures(void) {
     flat[29] = 2;
     flat[30] = 0xFF;
     flat[31] = 0x01;
-    CHECK(lipsync_read_container(audio, sizeof audio, lend(), 283) == 0);
+    CHECK(lipsync_read_container(audio, sizeof audio, lend(), 283, &count) == 0);
     CHECK(holds(flat, 283));
     audio[9] = 0x36;
-    CHECK(lipsync_read_container(audio, sizeof audio, lend(), 283) == 23);
+    CHECK(lipsync_read_container(audio, sizeof audio, lend(), 283, &count) == 23);
     CHECK(untouched());
 }
 
@@ -309,7 +313,7 @@ static void refused_as(int number, const uint8_t *front, size_t n) {
     size_t written = 99;
     memcpy(s, front, n);
     close_up(s, n + 1);
-    CHECK(lipsync_read_container(s, n + 1, lend(), MOST) == number);
+    CHECK(lipsync_read_container(s, n + 1, lend(), MOST, &count) == number);
     CHECK(untouched());
     CHECK(lipsync_write_packet(s, n + 1, lend(), MOST, &written) == number && written == 0);
     CHECK(untouched());
@@ -326,13 +330,13 @@ static void container_refusals(void) {
     const uint8_t longer[] = {0x00, 0x00, 0x03, 0x50, 0xAD}, unsummed[] = {0x00, 0x00, 0x02, 0x50, 0xAF};
     size_t written;
 
-    CHECK(lipsync_read_container(NULL, 0, lend(), MOST) == 20);
+    CHECK(lipsync_read_container(NULL, 0, lend(), MOST, &count) == 20);
     CHECK(untouched());
-    for (size_t n = 0; n < 5; n++) CHECK(lipsync_read_container(bare, n, lend(), MOST) == 20 && untouched());
+    for (size_t n = 0; n < 5; n++) CHECK(lipsync_read_container(bare, n, lend(), MOST, &count) == 20 && untouched());
     CHECK(lipsync_write_packet(NULL, 0, lend(), MOST, &written) == 20 && untouched());
-    CHECK(lipsync_read_container(later, 5, lend(), MOST) == 21 && untouched());
-    CHECK(lipsync_read_container(longer, 5, lend(), MOST) == 22 && untouched());
-    CHECK(lipsync_read_container(unsummed, 5, lend(), MOST) == 23 && untouched());
+    CHECK(lipsync_read_container(later, 5, lend(), MOST, &count) == 21 && untouched());
+    CHECK(lipsync_read_container(longer, 5, lend(), MOST, &count) == 22 && untouched());
+    CHECK(lipsync_read_container(unsummed, 5, lend(), MOST, &count) == 23 && untouched());
     REFUSED_AS(24, 0, 0, 0, 0x10);                               /* rate code 1 */
     REFUSED_AS(24, 0, 0, 0, 0xC0);                               /* rate code 12 */
     REFUSED_AS(24, 0, 0, 0, 0x58);                               /* bit 3 */
@@ -401,7 +405,7 @@ static void rooms(void) {
         try_wrap(bare, 5, room);
         try_unwrap(p, lay(words, wrap(bare, 5, words), p), room);
     }
-    CHECK(lipsync_read_container(bare, 5, NULL, 0) == 12);
+    CHECK(lipsync_read_container(bare, 5, NULL, 0, &count) == 12);
     CHECK(lipsync_write_packet(bare, 5, NULL, 0, &written) == 12 && written == 0);
     CHECK(lipsync_read_packet(p, 24, NULL, 0, &written) == 12 && written == 0);
 }
@@ -425,17 +429,18 @@ static void lines(void) {
                 pixels[k] = (uint8_t)(sum / taps);
             }
             size_t room = turn < 5 ? 60 : 40 + below(40);
-            int number = lipsync_sample_line((uint8_t)f, line, size, lend(), room);
+            int number = lipsync_sample_line((uint8_t)f, line, size, lend(), room, &count);
             seen[number]++;
             CHECK(number == (room < 60 ? 12 : 0));
-            CHECK(holds(pixels, number == 0 ? 60 : 0));
-            CHECK(lipsync_sample_line((uint8_t)f, line, size - 2, lend(), 60) == 2 && untouched());
-            CHECK(lipsync_sample_line((uint8_t)f, line, size + 1, lend(), 0) == 2 && untouched());
+            CHECK(count == (number == 0 ? 60 : 0));
+            CHECK(holds(pixels, count));
+            CHECK(lipsync_sample_line((uint8_t)f, line, size - 2, lend(), 60, &count) == 2 && untouched());
+            CHECK(lipsync_sample_line((uint8_t)f, line, size + 1, lend(), 0, &count) == 2 && untouched());
         }
-    for (unsigned f = 8; f < 256; f++) CHECK(lipsync_sample_line((uint8_t)f, line, 0, lend(), 0) == 1 && untouched());
-    CHECK(lipsync_sample_line(0, NULL, 0, NULL, 0) == 2);
-    CHECK(lipsync_sample_line(9, NULL, 0, NULL, 0) == 1);
-    CHECK(lipsync_sample_line(0, line, 1440, NULL, 0) == 12);
+    for (unsigned f = 8; f < 256; f++) CHECK(lipsync_sample_line((uint8_t)f, line, 0, lend(), 0, &count) == 1 && untouched());
+    CHECK(lipsync_sample_line(0, NULL, 0, NULL, 0, &count) == 2);
+    CHECK(lipsync_sample_line(9, NULL, 0, NULL, 0, &count) == 1);
+    CHECK(lipsync_sample_line(0, line, 1440, NULL, 0, &count) == 12);
 }
 
 /* ---- damage, from the fixed seed */

@@ -9,12 +9,12 @@ use Rattle.host.proofs.lipsync_write_packet.Reads as write-packet-reads
 use Rattle.host.proofs.lipsync_read_packet.Reads as read-packet-reads
 use Rattle.host.proofs.lipsync_sample_line.Reads as sample-line-reads
 
-pub read-container-unique : OneOutcome read-container-reads.Post (λ κs s. now (s .1 .0))
-read-container-unique κs a r r′ s s′ p q = one-pair p q
-
--- two things are lent to a packet call: the buffer and the place for the written length
+-- two things are lent to each call: the buffer and the place for the written length
 one-triple : {A B C : Type 0} {a x y : A} {b v w : B} {d t u : C} → (x ≡ a) × ((v ≡ b) × (t ≡ d)) → (y ≡ a) × ((w ≡ b) × (u ≡ d)) → (x ≡ y) × (_≡_ {A = B × C} (v, t) (w, u))
 one-triple p q = let l = one-pair (p .1) (q .1) in (one-value (p .0) (q .0), ap₂ (λ x y. (x, y)) (l .0) (l .1))
+
+pub read-container-unique : OneOutcome read-container-reads.Post {X = List ℕ × ℕ} (λ κs s. (now (s .1 .0), now (s .1 .1 .0)))
+read-container-unique κs a r r′ s s′ p q = one-triple p q
 
 pub write-packet-unique : OneOutcome write-packet-reads.Post {X = List ℕ × ℕ} (λ κs s. (now (s .1 .0), now (s .1 .1 .0)))
 write-packet-unique κs a r r′ s s′ p q = one-triple p q
@@ -22,5 +22,5 @@ write-packet-unique κs a r r′ s s′ p q = one-triple p q
 pub read-packet-unique : OneOutcome read-packet-reads.Post {X = List ℕ × ℕ} (λ κs s. (now (s .1 .0), now (s .1 .1 .0)))
 read-packet-unique κs a r r′ s s′ p q = one-triple p q
 
-pub sample-line-unique : OneOutcome sample-line-reads.Post (λ κs s. now (s .1 .1 .0))
-sample-line-unique κs a r r′ s s′ p q = one-pair p q
+pub sample-line-unique : OneOutcome sample-line-reads.Post {X = List ℕ × ℕ} (λ κs s. (now (s .1 .1 .0), now (s .1 .1 .1 .0)))
+sample-line-unique κs a r r′ s s′ p q = one-triple p q

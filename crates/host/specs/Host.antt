@@ -2,7 +2,8 @@
 use Prim.Native.Nat.{ℕ}
 use mathlib.Core.List.{List}
 use lib.ListN.{length}
-use Rattle.laws.specs.Calls.{roomNumber, outWith}
+use Rattle.laws.specs.Calls.{roomNumber, doneWith, outWith}
+use Rattle.laws.specs.declared.Done.{Done}
 use Rattle.container.specs.Reading.{reading}
 use Rattle.flat.specs.Flat.{flat}
 
@@ -13,5 +14,8 @@ flatOf s = flat (reading s .contents)
 unfoldable pub readNumber : List ℕ → ℕ → ℕ
 readNumber s room = roomNumber (reading s .number) (flatOf s) room
 
-unfoldable pub readFlat : List ℕ → List ℕ → List ℕ
-readFlat s out = outWith (readNumber s (length out)) (flatOf s) out
+unfoldable pub readDone : List ℕ → ℕ → Done
+readDone s room = doneWith (readNumber s room) (flatOf s)
+
+unfoldable pub readOut : List ℕ → List ℕ → List ℕ
+readOut s out = outWith (readNumber s (length out)) (flatOf s) out

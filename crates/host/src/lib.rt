@@ -2,28 +2,45 @@
 ghost use mathlib.Core.Path.{_≡_};
 ghost use lib.ListN.{length};
 ghost use Rattle.packet.specs.Writing.{writeDone, writeOut};
-ghost use Rattle.packet.specs.Reading.{readDone, readOut};
+ghost use Rattle.packet.specs.Reading as packet;
 ghost use Rattle.sampling.specs.Samples.{sampleDone, sampleOut};
-ghost use Rattle.host.specs.Host.{readNumber, readFlat};
+ghost use Rattle.host.specs.Host.{readDone, readOut};
+use laws::Done;
 
-// Read container, its contents flat: 20 to 28, 12.
-#[no_mangle]
-pub extern "C" fn lipsync_read_container(bytes: &[u8], out: &mut [u8]) -> u8
-    ensures { λ r. ⌜ r ≡ readNumber (now (bytes .entry)) (length (now (out .entry))) ⌝ }
-    ensures { λ _. ⌜ now (out .exit) ≡ readFlat (now (bytes .entry)) (now (out .entry)) ⌝ }
+// What a container says, flat, into the lent buffer: 20 to 28, 12.
+fn read_flat(bytes: &[u8], out: &mut [u8]) -> Done
+    ensures { λ r. ⌜ (r ≡ readDone (now (bytes .entry)) (length (now (out .entry)))) × (now (out .exit) ≡ readOut (now (bytes .entry)) (now (out .entry))) ⌝ }
 {
     let r = container::read_container(bytes);
     let number = r.number;
     if number != 0 {
-        return number;
+        return Done { number, written: 0 };
     }
     let contents = r.contents;
     let flat = flat::flatten(contents);
     if out.len() < 283 {
-        return 12;
+        return Done {
+            number: 12,
+            written: 0,
+        };
     }
     laws::copy_at(&flat, out, 0);
-    0
+    Done {
+        number: 0,
+        written: 283,
+    }
+}
+
+// Read container, its contents flat: 20 to 28, 12.
+#[no_mangle]
+pub extern "C" fn lipsync_read_container(bytes: &[u8], out: &mut [u8], written: &mut usize) -> u8
+    ensures { λ r. ⌜ r ≡ readDone (now (bytes .entry)) (length (now (out .entry))) .number ⌝ }
+    ensures { λ _. ⌜ now (out .exit) ≡ readOut (now (bytes .entry)) (now (out .entry)) ⌝ }
+    ensures { λ _. ⌜ now (written .exit) ≡ readDone (now (bytes .entry)) (length (now (out .entry))) .written ⌝ }
+{
+    let d = read_flat(bytes, out);
+    *written = d.written;
+    d.number
 }
 
 // Write packet: 20 to 28, 12.
@@ -41,9 +58,9 @@ pub extern "C" fn lipsync_write_packet(container: &[u8], out: &mut [u8], written
 // Read packet: 30 to 36, 20 to 28, 12.
 #[no_mangle]
 pub extern "C" fn lipsync_read_packet(words: &[u8], out: &mut [u8], written: &mut usize) -> u8
-    ensures { λ r. ⌜ r ≡ readDone (now (words .entry)) (length (now (out .entry))) .number ⌝ }
-    ensures { λ _. ⌜ now (out .exit) ≡ readOut (now (words .entry)) (now (out .entry)) ⌝ }
-    ensures { λ _. ⌜ now (written .exit) ≡ readDone (now (words .entry)) (length (now (out .entry))) .written ⌝ }
+    ensures { λ r. ⌜ r ≡ packet.readDone (now (words .entry)) (length (now (out .entry))) .number ⌝ }
+    ensures { λ _. ⌜ now (out .exit) ≡ packet.readOut (now (words .entry)) (now (out .entry)) ⌝ }
+    ensures { λ _. ⌜ now (written .exit) ≡ packet.readDone (now (words .entry)) (length (now (out .entry))) .written ⌝ }
 {
     let d = packet::read_packet(words, out);
     *written = d.written;
@@ -52,10 +69,17 @@ pub extern "C" fn lipsync_read_packet(words: &[u8], out: &mut [u8], written: &mu
 
 // Line sampling: 1, 2, 12.
 #[no_mangle]
-pub extern "C" fn lipsync_sample_line(format: u8, line: &[u8], out: &mut [u8]) -> u8
+pub extern "C" fn lipsync_sample_line(
+    format: u8,
+    line: &[u8],
+    out: &mut [u8],
+    written: &mut usize,
+) -> u8
     ensures { λ r. ⌜ r ≡ sampleDone format (now (line .entry)) (now (out .entry)) .number ⌝ }
     ensures { λ _. ⌜ now (out .exit) ≡ sampleOut format (now (line .entry)) (now (out .entry)) ⌝ }
+    ensures { λ _. ⌜ now (written .exit) ≡ sampleDone format (now (line .entry)) (now (out .entry)) .written ⌝ }
 {
     let d = sampling::sample_line(format, line, out);
+    *written = d.written;
     d.number
 }

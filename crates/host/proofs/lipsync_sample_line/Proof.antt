@@ -14,7 +14,7 @@ same-length c = search needs
 returns : tie.Need-returns
 returns c =
     let r = c .before .before .sample-line .ensures in
-    (ap (λ (d : Done). d .number) (r .0), r .1)
+    (ap (λ (d : Done). d .number) (r .0), (r .1, ap (λ (d : Done). d .written) (r .0)))
 
 pub lipsync-sample-line-spec : {M : Type 1} → statement M
 lipsync-sample-line-spec = tie.close (tie.spec sample-line-requires same-length returns)
