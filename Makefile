@@ -1,25 +1,40 @@
-# The two commands: `make run` shows the software at work, `make test` proves and tests everything.
-.PHONY: run test lib bench fuzz
+# The two commands: `make run` shows the software at work, `make test` proves and tests everything. `make` alone lists all targets.
+.PHONY: help run test lib install install-only bench fuzz
+.DEFAULT_GOAL := help
 
-run:
-	tools/run
+help: ## this list
+	@sed -n 's/^\([a-z]*\):.*## /  make \1\t/p' $(MAKEFILE_LIST)
 
-test:
-	tools/test
+run: ## shows card at work on a small feed: seconds unproved, then proved (about 4 minutes the first time)
+	@tools/run
 
-# The C interface: target/staticlib/libhost.a, declared in include/lipsync.h.
-lib:
-	rt staticlib host
+test: ## proves every crate from nothing and runs every test (15 to 20 minutes)
+	@tools/test
 
-# Speed beside plain Rust programs; docs/PERFORMANCE.md has the figures.
-bench:
+lib: ## proves the C interface and makes target/lib/liblipsync.a and .so
+	@tools/library
+
+PREFIX ?= /usr/local
+INSTALL = PREFIX='$(PREFIX)' LIBDIR='$(LIBDIR)' DESTDIR='$(DESTDIR)' tools/install
+install: lib ## header, libraries and lipsync.pc under PREFIX (/usr/local) below DESTDIR
+	@$(INSTALL)
+
+# What `make lib` made, as it is.
+install-only:
+	@$(INSTALL)
+
+bench: ## speed beside plain Rust programs (docs/PERFORMANCE.md)
+	@tools/need rt "proving and compiling what is measured"
+	@tools/need rustc "the programs beside it"
 	bench/video.sh
 	bench/audio.sh
 	bench/session.sh
 
-# N new random feeds of each kind; a feed on which the programs differ is kept under target/fuzz/.
 N ?= 100
-fuzz:
+fuzz: ## card beside the second program on N (100) new random feeds of each kind; one on which they differ is kept under target/fuzz/
+	@tools/need rt "proving card and inspect"
+	@tools/need cargo "the second program"
+	@tools/need python3 "the comparison"
 	rt check card inspect
 	cargo build --quiet --release --offline --manifest-path second/Cargo.toml --target-dir target/second
 	tools/compare target/bin/card --inspect target/bin/inspect --random $(N)

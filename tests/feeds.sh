@@ -33,4 +33,14 @@ for rate in 2 3 4 5 6 7 8 9 10 11; do
   try --format 2 --rate "$rate" --frames 45 --prints 2
 done
 try --format 3 --frames 4 --prints 32
+# The lines to which `make run` holds card before it is proved.
+tools/sample-feed --frames 3 | "$second" | cmp - examples/three-frames.txt
+# A program that prints the right lines and then fails is different to tools/compare.
+printf '#!/bin/sh\n"%s"\nexit 3\n' "$PWD/$card" > "$folder/failing"
+chmod +x "$folder/failing"
+if tools/compare "$folder/failing" --second "$second" --kinds write --seeds 1 > "$folder/said" 2>&1 || ! grep -q 'ended with status 3' "$folder/said"; then
+  echo "feeds: tools/compare does not see that a program fails" >&2
+  exit 1
+fi
+rm -f target/fuzz/write-1.*
 echo "feeds: $count feeds alike"

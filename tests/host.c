@@ -1,6 +1,7 @@
 /*
  * What the host's calls answer, against document 01: its figures, each refusal, short buffers between guard bytes, and damaged containers and packets from a
- * fixed seed. What is expected is worked out here from 01's rules, never taken from the library. Prints the number of checks; the first that fails ends it.
+ * fixed seed. What is expected is worked out here from 01's rules, never taken from the library, and said in the header's names, so that a wrong constant is found.
+ * Prints the number of checks; the first that fails ends it. With the word `meanings` it only prints what each number means.
  */
 #include "lipsync.h"
 #include <stdio.h>
@@ -52,55 +53,67 @@ static uint32_t below(uint32_t n) {
 
 /* ---- document 01, The container: the first refusal, or 0 and the contents, flat */
 
+static int is_rate(unsigned code) {
+    switch (code) {
+    case LIPSYNC_RATE_23_98: case LIPSYNC_RATE_24: case LIPSYNC_RATE_47_95: case LIPSYNC_RATE_25: case LIPSYNC_RATE_29_97:
+    case LIPSYNC_RATE_30: case LIPSYNC_RATE_48: case LIPSYNC_RATE_50: case LIPSYNC_RATE_59_94: case LIPSYNC_RATE_60: return 1;
+    default: return 0;
+    }
+}
+
+static int is_interlaced(unsigned code) { return code == LIPSYNC_RATE_25 || code == LIPSYNC_RATE_29_97 || code == LIPSYNC_RATE_30; }
+
+static int is_mix(unsigned mix) { return mix == LIPSYNC_MIX_MONO || mix == LIPSYNC_MIX_STEREO || mix == LIPSYNC_MIX_5_1; }
+
 static int judge_container(const uint8_t *s, size_t n, uint8_t *flat) {
     size_t p = 4, end = n - 1;
     unsigned sum = 0;
-    memset(flat, 0, 283);
-    if (n < 5) return 20;
-    if (s[0] != 0) return 21;
-    if (n != s[2] + 3u) return 22;
+    memset(flat, 0, LIPSYNC_FLAT_SIZE);
+    if (n < 5) return LIPSYNC_REFUSED_UNDER_5_BYTES;
+    if (s[0] != 0) return LIPSYNC_REFUSED_VERSION;
+    if (n != s[2] + 3u) return LIPSYNC_REFUSED_SIZE;
     for (size_t i = 0; i < n; i++) sum += s[i];
-    if (sum % 256 != 0) return 23;
+    if (sum % 256 != 0) return LIPSYNC_REFUSED_SUM;
     unsigned rate = s[3] >> 4;
-    if (rate < 2 || rate > 11 || (s[3] & 8)) return 24;
-    flat[0] = s[1];
-    flat[1] = (uint8_t)rate;
+    if (!is_rate(rate) || (s[3] & 8)) return LIPSYNC_REFUSED_RATE;
+    flat[LIPSYNC_FLAT_COUNTER] = s[1];
+    flat[LIPSYNC_FLAT_RATE] = (uint8_t)rate;
     if (s[3] & 4) {
-        if (end - p < 21 || s[p] != 0) return 25;
-        flat[2] = 1;
-        memcpy(flat + 3, s + p + 1, 20);
+        if (end - p < 21 || s[p] != 0) return LIPSYNC_REFUSED_ID;
+        flat[LIPSYNC_FLAT_HAS_ID] = 1;
+        memcpy(flat + LIPSYNC_FLAT_ID, s + p + 1, 20);
         p += 21;
     }
     if (s[3] & 2) {
-        if (end - p < 2) return 26;
+        if (end - p < 2) return LIPSYNC_REFUSED_VIDEO;
         unsigned values = s[p] == 0x09 ? 1 : s[p] == 0x11 ? 2 : 0;
-        if (values == 0 || (values == 2 && (rate < 5 || rate > 7)) || end - p < values + 1) return 26;
-        flat[23] = (uint8_t)values;
+        if (values == 0 || (values == 2 && !is_interlaced(rate)) || end - p < values + 1) return LIPSYNC_REFUSED_VIDEO;
+        flat[LIPSYNC_FLAT_VIDEO_COUNT] = (uint8_t)values;
         for (unsigned i = 0; i < values; i++) {
-            if (s[p + 1 + i] > 240) return 26;
-            flat[24 + i] = s[p + 1 + i];
+            if (s[p + 1 + i] > 240) return LIPSYNC_REFUSED_VIDEO;
+            flat[LIPSYNC_FLAT_VIDEO + i] = s[p + 1 + i];
         }
         p += values + 1;
     }
     if (s[3] & 1) {
-        if (end - p < 1 || s[p] % 8 != 2) return 27;
+        if (end - p < 1 || s[p] % 8 != 2) return LIPSYNC_REFUSED_AUDIO;
         unsigned count = s[p] / 8 + 1;
-        flat[26] = (uint8_t)count;
+        flat[LIPSYNC_FLAT_AUDIO_COUNT] = (uint8_t)count;
         p++;
         for (unsigned k = 0; k < count; k++) {
-            if (end - p < 2) return 27;
+            if (end - p < 2) return LIPSYNC_REFUSED_AUDIO;
             unsigned mix = s[p] % 8, size = s[p + 1] / 8;
-            if (mix != 1 && mix != 2 && mix != 5) return 27;
-            if (s[p + 1] % 8 != 0 || size < 1 || size > 5 || end - p < 2 + size) return 27;
-            uint8_t *f = flat + 27 + 8 * k;
-            f[0] = s[p] / 8;
-            f[1] = (uint8_t)mix;
-            f[2] = (uint8_t)size;
-            memcpy(f + 3, s + p + 2, size);
+            if (!is_mix(mix)) return LIPSYNC_REFUSED_AUDIO;
+            if (s[p + 1] % 8 != 0 || size < 1 || size > 5 || end - p < 2 + size) return LIPSYNC_REFUSED_AUDIO;
+            uint8_t *f = flat + LIPSYNC_FLAT_AUDIO + LIPSYNC_FLAT_AUDIO_STEP * k;
+            f[LIPSYNC_FLAT_AUDIO_ID] = s[p] / 8;
+            f[LIPSYNC_FLAT_AUDIO_MIX] = (uint8_t)mix;
+            f[LIPSYNC_FLAT_AUDIO_SIZE] = (uint8_t)size;
+            memcpy(f + LIPSYNC_FLAT_AUDIO_BYTES, s + p + 2, size);
             p += 2 + size;
         }
     }
-    return p == end ? 0 : 28;
+    return p == end ? LIPSYNC_OK : LIPSYNC_REFUSED_LEFT_OVER;
 }
 
 /* ---- document 01, The packet */
@@ -137,24 +150,24 @@ static size_t lay(const unsigned *w, size_t n, uint8_t *bytes) {
 
 static int judge_packet(const uint8_t *s, size_t size, uint8_t *container, size_t *n) {
     unsigned w[MOST];
-    uint8_t flat[283];
+    uint8_t flat[LIPSYNC_FLAT_SIZE];
     size_t words = size / 2;
     *n = 0;
-    if (size % 2) return 30;
+    if (size % 2) return LIPSYNC_REFUSED_WORD;
     for (size_t i = 0; i < words; i++) {
         w[i] = s[2 * i] + 256u * s[2 * i + 1];
-        if (w[i] > 0x3FF) return 30;
+        if (w[i] > 0x3FF) return LIPSYNC_REFUSED_WORD;
     }
-    if (words < 7) return 31;
-    if (w[0] != 0 || w[1] != 0x3FF || w[2] != 0x3FF) return 32;
-    if (w[3] != 0x241 || w[4] != 0x10B) return 33;
-    if (w[5] != with_parity(w[5] & 0xFF) || words != (w[5] & 0xFF) + 7) return 34;
+    if (words < 7) return LIPSYNC_REFUSED_UNDER_7_WORDS;
+    if (w[0] != 0 || w[1] != 0x3FF || w[2] != 0x3FF) return LIPSYNC_REFUSED_START;
+    if (w[3] != 0x241 || w[4] != 0x10B) return LIPSYNC_REFUSED_KIND;
+    if (w[5] != with_parity(w[5] & 0xFF) || words != (w[5] & 0xFF) + 7) return LIPSYNC_REFUSED_COUNT;
     size_t count = words - 7;
     for (size_t i = 0; i < count; i++) {
-        if (w[6 + i] != with_parity(w[6 + i] & 0xFF)) return 35;
+        if (w[6 + i] != with_parity(w[6 + i] & 0xFF)) return LIPSYNC_REFUSED_PARITY;
         container[i] = w[6 + i] & 0xFF;
     }
-    if (w[6 + count] != checksum(w + 3, count + 3)) return 36;
+    if (w[6 + count] != checksum(w + 3, count + 3)) return LIPSYNC_REFUSED_CHECKSUM;
     *n = count;
     return judge_container(container, count, flat);
 }
@@ -164,29 +177,30 @@ static int judge_packet(const uint8_t *s, size_t size, uint8_t *container, size_
 static int seen[64];
 
 /* the written length of the newest reading or sampling */
-static size_t count = 99;
+static size_t count;
 
 static void try_container(const uint8_t *s, size_t n, size_t room) {
-    uint8_t flat[283], copy[MOST];
+    uint8_t flat[LIPSYNC_FLAT_SIZE], copy[MOST];
     if (n) memcpy(copy, s, n);
     int expected = judge_container(s, n, flat);
-    if (expected == 0 && room < 283) expected = 12;
+    if (expected == LIPSYNC_OK && room < LIPSYNC_FLAT_SIZE) expected = LIPSYNC_REFUSED_ROOM;
     uint8_t *out = lend();
+    count = 99;
     int number = lipsync_read_container(s, n, out, room, &count);
     seen[number]++;
     CHECK(number == expected);
-    CHECK(count == (number == 0 ? 283 : 0));
+    CHECK(count == (number == 0 ? LIPSYNC_FLAT_SIZE : 0));
     CHECK(holds(flat, count));
     CHECK(n == 0 || memcmp(copy, s, n) == 0);
 }
 
 static void try_wrap(const uint8_t *s, size_t n, size_t room) {
-    uint8_t flat[283], packet[2 * MOST];
+    uint8_t flat[LIPSYNC_FLAT_SIZE], packet[2 * MOST];
     unsigned words[MOST];
     size_t written = 99, size = 0;
     int expected = judge_container(s, n, flat);
     if (expected == 0) size = lay(words, wrap(s, n, words), packet);
-    if (expected == 0 && room < size) expected = 12;
+    if (expected == LIPSYNC_OK && room < size) expected = LIPSYNC_REFUSED_ROOM;
     uint8_t *out = lend();
     int number = lipsync_write_packet(s, n, out, room, &written);
     seen[number]++;
@@ -199,7 +213,7 @@ static void try_unwrap(const uint8_t *s, size_t n, size_t room) {
     uint8_t container[MOST], again[2 * MOST];
     size_t written = 99, size, rewritten = 99;
     int expected = judge_packet(s, n, container, &size);
-    if (expected == 0 && room < size) expected = 12;
+    if (expected == LIPSYNC_OK && room < size) expected = LIPSYNC_REFUSED_ROOM;
     uint8_t *out = lend();
     int number = lipsync_read_packet(s, n, out, room, &written);
     seen[number]++;
@@ -222,7 +236,7 @@ static void close_up(uint8_t *s, size_t n) {
 }
 
 static size_t made(uint8_t *s) {
-    static const uint8_t mixes[] = {1, 2, 5};
+    static const uint8_t mixes[] = {LIPSYNC_MIX_MONO, LIPSYNC_MIX_STEREO, LIPSYNC_MIX_5_1};
     unsigned rate = 2 + below(10), flags = below(8);
     size_t n = 4;
     s[0] = 0;
@@ -233,7 +247,7 @@ static size_t made(uint8_t *s) {
         for (int i = 0; i < 20; i++) s[n++] = (uint8_t)below(256);
     }
     if (flags & 2) {
-        unsigned values = rate >= 5 && rate <= 7 ? 1 + below(2) : 1;
+        unsigned values = is_interlaced(rate) ? 1 + below(2) : 1;
         s[n++] = values == 1 ? 0x09 : 0x11;
         while (values--) s[n++] = (uint8_t)below(241);
     }
@@ -269,41 +283,71 @@ static size_t damaged(uint8_t *s, size_t n) {
 
 /* ---- the parts of the test */
 
+static int read_flat(const uint8_t *s, size_t n) {
+    count = 99;
+    return lipsync_read_container(s, n, lend(), LIPSYNC_FLAT_SIZE, &count);
+}
+
+/* a reading refused with this number: nothing is written */
+static int read_refused(const uint8_t *s, size_t n, int number) {
+    count = 99;
+    return lipsync_read_container(s, n, lend(), MOST, &count) == number && count == 0 && untouched();
+}
+
 static void figures(void) {
     const uint8_t bare[] = {0x00, 0x00, 0x02, 0x50, 0xAE};
     const unsigned words[] = {0x000, 0x3FF, 0x3FF, 0x241, 0x10B, 0x205, 0x200, 0x200, 0x102, 0x250, 0x1AE, 0x251};
     const uint8_t video[] = {0x00, 0x07, 0x04, 0x52, 0x09, 0xF0, 0xAA};
     uint8_t audio[] = {0x00, 0x00, 0x07, 0xB1, 0x02, 0x01, 0x10, 0xFF, 0x01, 0x35};
-    uint8_t flat[283] = {0}, packet[24];
+    uint8_t flat[LIPSYNC_FLAT_SIZE] = {0}, packet[24];
     size_t written;
 
-    flat[1] = 5;
-    CHECK(lipsync_read_container(bare, sizeof bare, lend(), 283, &count) == 0);
-    CHECK(holds(flat, 283));
+    flat[LIPSYNC_FLAT_RATE] = LIPSYNC_RATE_25;
+    CHECK(read_flat(bare, sizeof bare) == LIPSYNC_OK && holds(flat, LIPSYNC_FLAT_SIZE));
     lay(words, 12, packet);
-    CHECK(lipsync_write_packet(bare, sizeof bare, lend(), MOST, &written) == 0 && written == 24);
+    CHECK(lipsync_write_packet(bare, sizeof bare, lend(), MOST, &written) == LIPSYNC_OK && written == 24);
     CHECK(holds(packet, 24));
-    CHECK(lipsync_read_packet(packet, 24, lend(), MOST, &written) == 0 && written == 5);
+    CHECK(lipsync_read_packet(packet, 24, lend(), MOST, &written) == LIPSYNC_OK && written == 5);
     CHECK(holds(bare, 5));
 
-    flat[0] = 7;
-    flat[23] = 1;
-    flat[24] = 240;
-    CHECK(lipsync_read_container(video, sizeof video, lend(), 283, &count) == 0);
-    CHECK(holds(flat, 283));
+    flat[LIPSYNC_FLAT_COUNTER] = 7;
+    flat[LIPSYNC_FLAT_VIDEO_COUNT] = 1;
+    flat[LIPSYNC_FLAT_VIDEO] = 240;
+    CHECK(read_flat(video, sizeof video) == LIPSYNC_OK && holds(flat, LIPSYNC_FLAT_SIZE));
 
     memset(flat, 0, sizeof flat);
-    flat[1] = 11;
-    flat[26] = 1;
-    flat[28] = 1;
-    flat[29] = 2;
-    flat[30] = 0xFF;
-    flat[31] = 0x01;
-    CHECK(lipsync_read_container(audio, sizeof audio, lend(), 283, &count) == 0);
-    CHECK(holds(flat, 283));
+    flat[LIPSYNC_FLAT_RATE] = LIPSYNC_RATE_60;
+    flat[LIPSYNC_FLAT_AUDIO_COUNT] = 1;
+    flat[LIPSYNC_FLAT_AUDIO + LIPSYNC_FLAT_AUDIO_MIX] = LIPSYNC_MIX_MONO;
+    flat[LIPSYNC_FLAT_AUDIO + LIPSYNC_FLAT_AUDIO_SIZE] = 2;
+    flat[LIPSYNC_FLAT_AUDIO + LIPSYNC_FLAT_AUDIO_BYTES] = 0xFF;
+    flat[LIPSYNC_FLAT_AUDIO + LIPSYNC_FLAT_AUDIO_BYTES + 1] = 0x01;
+    CHECK(read_flat(audio, sizeof audio) == LIPSYNC_OK && holds(flat, LIPSYNC_FLAT_SIZE));
     audio[9] = 0x36;
-    CHECK(lipsync_read_container(audio, sizeof audio, lend(), 283, &count) == 23);
-    CHECK(untouched());
+    CHECK(read_flat(audio, sizeof audio) == LIPSYNC_REFUSED_SUM && untouched());
+}
+
+/* all parts, each as large as it can be: 4 + 21 + 3 + 225 + 1 bytes */
+static void largest(void) {
+    uint8_t s[MOST] = {0, 255, 0, LIPSYNC_RATE_25 * 16 + 7}, packet[2 * MOST];
+    unsigned words[MOST];
+    size_t n = 25, written = 99;
+    s[n++] = 0x11;
+    s[n++] = 240;
+    s[n++] = 240;
+    s[n++] = 31 * 8 + 2;
+    for (unsigned k = 0; k < 32; k++, n += 7) {
+        s[n] = (uint8_t)(k * 8 + LIPSYNC_MIX_5_1);
+        s[n + 1] = 5 * 8;
+    }
+    close_up(s, ++n);
+    CHECK(n == LIPSYNC_LARGEST_CONTAINER);
+    try_container(s, n, LIPSYNC_FLAT_SIZE);
+    CHECK(lay(words, wrap(s, n, words), packet) == LIPSYNC_LARGEST_PACKET);
+    CHECK(lipsync_write_packet(s, n, lend(), LIPSYNC_LARGEST_PACKET, &written) == LIPSYNC_OK && written == LIPSYNC_LARGEST_PACKET);
+    CHECK(holds(packet, LIPSYNC_LARGEST_PACKET));
+    CHECK(lipsync_write_packet(s, n, lend(), LIPSYNC_LARGEST_PACKET - 1, &written) == LIPSYNC_REFUSED_ROOM && written == 0 && untouched());
+    CHECK(lipsync_read_packet(packet, LIPSYNC_LARGEST_PACKET, lend(), LIPSYNC_LARGEST_CONTAINER, &written) == LIPSYNC_OK && written == n && holds(s, n));
 }
 
 /* a container of these bytes before its checksum, with Length and checksum right */
@@ -313,8 +357,7 @@ static void refused_as(int number, const uint8_t *front, size_t n) {
     size_t written = 99;
     memcpy(s, front, n);
     close_up(s, n + 1);
-    CHECK(lipsync_read_container(s, n + 1, lend(), MOST, &count) == number);
-    CHECK(untouched());
+    CHECK(read_refused(s, n + 1, number));
     CHECK(lipsync_write_packet(s, n + 1, lend(), MOST, &written) == number && written == 0);
     CHECK(untouched());
     size_t size = lay(words, wrap(s, n + 1, words), packet);
@@ -323,44 +366,43 @@ static void refused_as(int number, const uint8_t *front, size_t n) {
     CHECK(untouched());
     try_container(s, n + 1, MOST);
 }
-#define REFUSED_AS(number, ...) refused_as(number, (const uint8_t[]){__VA_ARGS__}, sizeof((const uint8_t[]){__VA_ARGS__}))
+#define REFUSED_AS(name, ...) refused_as(LIPSYNC_REFUSED_##name, (const uint8_t[]){__VA_ARGS__}, sizeof((const uint8_t[]){__VA_ARGS__}))
 
 static void container_refusals(void) {
     const uint8_t bare[] = {0x00, 0x00, 0x02, 0x50, 0xAE}, later[] = {0x01, 0x00, 0x02, 0x50, 0xAD};
     const uint8_t longer[] = {0x00, 0x00, 0x03, 0x50, 0xAD}, unsummed[] = {0x00, 0x00, 0x02, 0x50, 0xAF};
     size_t written;
 
-    CHECK(lipsync_read_container(NULL, 0, lend(), MOST, &count) == 20);
-    CHECK(untouched());
-    for (size_t n = 0; n < 5; n++) CHECK(lipsync_read_container(bare, n, lend(), MOST, &count) == 20 && untouched());
-    CHECK(lipsync_write_packet(NULL, 0, lend(), MOST, &written) == 20 && untouched());
-    CHECK(lipsync_read_container(later, 5, lend(), MOST, &count) == 21 && untouched());
-    CHECK(lipsync_read_container(longer, 5, lend(), MOST, &count) == 22 && untouched());
-    CHECK(lipsync_read_container(unsummed, 5, lend(), MOST, &count) == 23 && untouched());
-    REFUSED_AS(24, 0, 0, 0, 0x10);                               /* rate code 1 */
-    REFUSED_AS(24, 0, 0, 0, 0xC0);                               /* rate code 12 */
-    REFUSED_AS(24, 0, 0, 0, 0x58);                               /* bit 3 */
-    REFUSED_AS(25, 0, 0, 0, 0x54);                               /* no ID bytes */
-    REFUSED_AS(25, 0, 0, 0, 0x54, 0, 1, 2, 3, 4, 5, 6, 7, 8, 9, 10, 11, 12, 13, 14, 15, 16, 17, 18, 19);
-    REFUSED_AS(25, 0, 0, 0, 0x54, 1, 1, 2, 3, 4, 5, 6, 7, 8, 9, 10, 11, 12, 13, 14, 15, 16, 17, 18, 19, 20);
-    REFUSED_AS(26, 0, 0, 0, 0x52, 0x09);                         /* no value */
-    REFUSED_AS(26, 0, 0, 0, 0x52, 0x0A, 0);                      /* neither 09h nor 11h */
-    REFUSED_AS(26, 0, 0, 0, 0x52, 0x09, 241);                    /* above 240 */
-    REFUSED_AS(26, 0, 0, 0, 0x52, 0x11, 0);                      /* one value of two */
-    REFUSED_AS(26, 0, 0, 0, 0x52, 0x11, 0, 241);                 /* the second above 240 */
-    REFUSED_AS(26, 0, 0, 0, 0x32, 0x11, 0, 0);                   /* two at 24 Hz */
-    REFUSED_AS(26, 0, 0, 0, 0x82, 0x11, 0, 0);                   /* two at 48 Hz */
-    REFUSED_AS(27, 0, 0, 0, 0x51);                               /* no count */
-    REFUSED_AS(27, 0, 0, 0, 0x51, 0x03, 0x01, 0x08, 0);          /* count's low bits not 2 */
-    REFUSED_AS(27, 0, 0, 0, 0x51, 0x02, 0x01);                   /* no AFDataCount */
-    REFUSED_AS(27, 0, 0, 0, 0x51, 0x02, 0x03, 0x08, 0);          /* mix type 3 */
-    REFUSED_AS(27, 0, 0, 0, 0x51, 0x02, 0x01, 0x09, 0);          /* AFDataCount's low bits not 0 */
-    REFUSED_AS(27, 0, 0, 0, 0x51, 0x02, 0x01, 0x00);             /* no bytes */
-    REFUSED_AS(27, 0, 0, 0, 0x51, 0x02, 0x01, 0x30, 0, 0, 0, 0, 0, 0); /* six bytes */
-    REFUSED_AS(27, 0, 0, 0, 0x51, 0x02, 0x01, 0x10, 0);          /* one byte of two */
-    REFUSED_AS(27, 0, 0, 0, 0x51, 0x0A, 0x01, 0x08, 0);          /* one fingerprint of two */
-    REFUSED_AS(28, 0, 0, 0, 0x50, 0);                            /* a byte left over */
-    REFUSED_AS(28, 0, 0, 0, 0x51, 0x02, 0x01, 0x08, 0, 0);
+    CHECK(read_refused(NULL, 0, LIPSYNC_REFUSED_UNDER_5_BYTES));
+    for (size_t n = 0; n < 5; n++) CHECK(read_refused(bare, n, LIPSYNC_REFUSED_UNDER_5_BYTES));
+    CHECK(lipsync_write_packet(NULL, 0, lend(), MOST, &written) == LIPSYNC_REFUSED_UNDER_5_BYTES && untouched());
+    CHECK(read_refused(later, 5, LIPSYNC_REFUSED_VERSION));
+    CHECK(read_refused(longer, 5, LIPSYNC_REFUSED_SIZE));
+    CHECK(read_refused(unsummed, 5, LIPSYNC_REFUSED_SUM));
+    REFUSED_AS(RATE, 0, 0, 0, 0x10); /* rate code 1 */
+    REFUSED_AS(RATE, 0, 0, 0, 0xC0); /* rate code 12 */
+    REFUSED_AS(RATE, 0, 0, 0, 0x58); /* bit 3 */
+    REFUSED_AS(ID, 0, 0, 0, 0x54); /* no ID bytes */
+    REFUSED_AS(ID, 0, 0, 0, 0x54, 0, 1, 2, 3, 4, 5, 6, 7, 8, 9, 10, 11, 12, 13, 14, 15, 16, 17, 18, 19);
+    REFUSED_AS(ID, 0, 0, 0, 0x54, 1, 1, 2, 3, 4, 5, 6, 7, 8, 9, 10, 11, 12, 13, 14, 15, 16, 17, 18, 19, 20);
+    REFUSED_AS(VIDEO, 0, 0, 0, 0x52, 0x09); /* no value */
+    REFUSED_AS(VIDEO, 0, 0, 0, 0x52, 0x0A, 0); /* neither 09h nor 11h */
+    REFUSED_AS(VIDEO, 0, 0, 0, 0x52, 0x09, 241); /* above 240 */
+    REFUSED_AS(VIDEO, 0, 0, 0, 0x52, 0x11, 0); /* one value of two */
+    REFUSED_AS(VIDEO, 0, 0, 0, 0x52, 0x11, 0, 241); /* the second above 240 */
+    REFUSED_AS(VIDEO, 0, 0, 0, 0x32, 0x11, 0, 0); /* two at 24 Hz */
+    REFUSED_AS(VIDEO, 0, 0, 0, 0x82, 0x11, 0, 0); /* two at 48 Hz */
+    REFUSED_AS(AUDIO, 0, 0, 0, 0x51); /* no count */
+    REFUSED_AS(AUDIO, 0, 0, 0, 0x51, 0x03, 0x01, 0x08, 0); /* count's low bits not 2 */
+    REFUSED_AS(AUDIO, 0, 0, 0, 0x51, 0x02, 0x01); /* no AFDataCount */
+    REFUSED_AS(AUDIO, 0, 0, 0, 0x51, 0x02, 0x03, 0x08, 0); /* mix type 3 */
+    REFUSED_AS(AUDIO, 0, 0, 0, 0x51, 0x02, 0x01, 0x09, 0); /* AFDataCount's low bits not 0 */
+    REFUSED_AS(AUDIO, 0, 0, 0, 0x51, 0x02, 0x01, 0x00); /* no bytes */
+    REFUSED_AS(AUDIO, 0, 0, 0, 0x51, 0x02, 0x01, 0x30, 0, 0, 0, 0, 0, 0); /* six bytes */
+    REFUSED_AS(AUDIO, 0, 0, 0, 0x51, 0x02, 0x01, 0x10, 0); /* one byte of two */
+    REFUSED_AS(AUDIO, 0, 0, 0, 0x51, 0x0A, 0x01, 0x08, 0); /* one fingerprint of two */
+    REFUSED_AS(LEFT_OVER, 0, 0, 0, 0x50, 0); /* a byte left over */
+    REFUSED_AS(LEFT_OVER, 0, 0, 0, 0x51, 0x02, 0x01, 0x08, 0, 0);
 }
 
 static void packet_refusals(void) {
@@ -370,15 +412,23 @@ static void packet_refusals(void) {
     size_t written = 99;
     wrap(bare, 5, words);
 
-    CHECK(lipsync_read_packet(NULL, 0, lend(), MOST, &written) == 31 && written == 0 && untouched());
+    CHECK(lipsync_read_packet(NULL, 0, lend(), MOST, &written) == LIPSYNC_REFUSED_UNDER_7_WORDS && written == 0 && untouched());
     for (size_t n = 0; n < 24; n++) { /* odd sizes, under 7 words, then fewer than count + 7 */
         lay(words, 12, p);
-        CHECK(lipsync_read_packet(p, n, lend(), MOST, &written) == (n % 2 ? 30 : n < 14 ? 31 : 34) && written == 0 && untouched());
+        int number = n % 2 ? LIPSYNC_REFUSED_WORD : n < 14 ? LIPSYNC_REFUSED_UNDER_7_WORDS : LIPSYNC_REFUSED_COUNT;
+        CHECK(lipsync_read_packet(p, n, lend(), MOST, &written) == number && written == 0 && untouched());
     }
     const struct { unsigned at, word; int number; } wrong[] = {
-        {0, 0x400, 30}, {11, 0x400, 30}, {7, 0xFFFF, 30}, {0, 0x001, 32}, {1, 0x3FE, 32}, {2, 0x000, 32}, {3, 0x141, 33}, {3, 0x242, 33}, {4, 0x20B, 33},
-        {4, 0x10C, 33}, {5, 0x105, 34}, {5, 0x005, 34}, {5, 0x305, 34}, {5, 0x206, 34}, {5, 0x104, 34}, {6, 0x100, 35}, {6, 0x000, 35}, {10, 0x3AE, 35},
-        {10, 0x2AE, 35}, {8, 0x101, 36}, {11, 0x051, 36}, {11, 0x151, 36}, {11, 0x252, 36}};
+        {0, 0x400, LIPSYNC_REFUSED_WORD}, {11, 0x400, LIPSYNC_REFUSED_WORD}, {7, 0xFFFF, LIPSYNC_REFUSED_WORD},
+        {0, 0x001, LIPSYNC_REFUSED_START}, {1, 0x3FE, LIPSYNC_REFUSED_START}, {2, 0x000, LIPSYNC_REFUSED_START},
+        {3, 0x141, LIPSYNC_REFUSED_KIND}, {3, 0x242, LIPSYNC_REFUSED_KIND}, {4, 0x20B, LIPSYNC_REFUSED_KIND},
+        {4, 0x10C, LIPSYNC_REFUSED_KIND},
+        {5, 0x105, LIPSYNC_REFUSED_COUNT}, {5, 0x005, LIPSYNC_REFUSED_COUNT}, {5, 0x305, LIPSYNC_REFUSED_COUNT},
+        {5, 0x206, LIPSYNC_REFUSED_COUNT}, {5, 0x104, LIPSYNC_REFUSED_COUNT},
+        {6, 0x100, LIPSYNC_REFUSED_PARITY}, {6, 0x000, LIPSYNC_REFUSED_PARITY}, {10, 0x3AE, LIPSYNC_REFUSED_PARITY},
+        {10, 0x2AE, LIPSYNC_REFUSED_PARITY},
+        {8, 0x101, LIPSYNC_REFUSED_CHECKSUM}, {11, 0x051, LIPSYNC_REFUSED_CHECKSUM}, {11, 0x151, LIPSYNC_REFUSED_CHECKSUM},
+        {11, 0x252, LIPSYNC_REFUSED_CHECKSUM}};
     for (size_t i = 0; i < sizeof wrong / sizeof wrong[0]; i++) {
         memcpy(w, words, sizeof w);
         w[wrong[i].at] = wrong[i].word;
@@ -388,11 +438,11 @@ static void packet_refusals(void) {
         try_unwrap(p, size, MOST);
     }
     w[0] = 0x400; /* every word is looked at before the size: 30, not 31 */
-    CHECK(lipsync_read_packet(p, lay(w, 1, p), lend(), MOST, &written) == 30 && untouched());
+    CHECK(lipsync_read_packet(p, lay(w, 1, p), lend(), MOST, &written) == LIPSYNC_REFUSED_WORD && untouched());
     memcpy(w, words, sizeof w);
     w[0] = 1; /* the number furthest left */
     w[3] = w[5] = w[6] = w[11] = 0;
-    CHECK(lipsync_read_packet(p, lay(w, 12, p), lend(), MOST, &written) == 32 && untouched());
+    CHECK(lipsync_read_packet(p, lay(w, 12, p), lend(), MOST, &written) == LIPSYNC_REFUSED_START && untouched());
 }
 
 static void rooms(void) {
@@ -405,42 +455,88 @@ static void rooms(void) {
         try_wrap(bare, 5, room);
         try_unwrap(p, lay(words, wrap(bare, 5, words), p), room);
     }
-    CHECK(lipsync_read_container(bare, 5, NULL, 0, &count) == 12);
-    CHECK(lipsync_write_packet(bare, 5, NULL, 0, &written) == 12 && written == 0);
-    CHECK(lipsync_read_packet(p, 24, NULL, 0, &written) == 12 && written == 0);
+    count = 99;
+    CHECK(lipsync_read_container(bare, 5, NULL, 0, &count) == LIPSYNC_REFUSED_ROOM && count == 0);
+    CHECK(lipsync_write_packet(bare, 5, NULL, 0, &written) == LIPSYNC_REFUSED_ROOM && written == 0);
+    CHECK(lipsync_read_packet(p, 24, NULL, 0, &written) == LIPSYNC_REFUSED_ROOM && written == 0);
 }
 
-/* ---- 01, Video: width, HStart, HStep, and the taps before and after a pixel */
+/* ---- 01, Video: width, lines, HStart, HStep, the taps before and after a pixel, VStart of both fields, VStep */
 
-static const struct { unsigned width, start, step, before, after; } formats[8] = {
-    {720, 123, 8, 0, 0}, {720, 123, 8, 0, 0}, {1280, 256, 13, 1, 0}, {1920, 399, 19, 1, 1}, {1920, 399, 19, 1, 1}, {2048, 463, 19, 1, 1},
-    {3840, 798, 38, 3, 2}, {4096, 926, 38, 3, 2}};
+enum { PIXELS = 60, MONITORED = 16 };
+
+static const struct { unsigned width, lines, start, step, before, after, first[2], rows; } formats[] = {
+    [LIPSYNC_FORMAT_485I] = {720, 525, 123, 8, 0, 0, {60, 323}, 10},
+    [LIPSYNC_FORMAT_576I] = {720, 625, 123, 8, 0, 0, {68, 381}, 12},
+    [LIPSYNC_FORMAT_720P] = {1280, 750, 256, 13, 1, 0, {117, 0}, 32},
+    [LIPSYNC_FORMAT_1080I] = {1920, 1125, 399, 19, 1, 1, {89, 652}, 24},
+    [LIPSYNC_FORMAT_1080P] = {1920, 1125, 399, 19, 1, 1, {178, 0}, 48},
+    [LIPSYNC_FORMAT_2048X1080P] = {2048, 1125, 463, 19, 1, 1, {206, 0}, 46},
+    [LIPSYNC_FORMAT_3840X2160P] = {3840, 2250, 798, 38, 3, 2, {412, 0}, 92},
+    [LIPSYNC_FORMAT_4096X2160P] = {4096, 2250, 926, 38, 3, 2, {412, 0}, 92}};
+
+/* a sampling refused with this number: nothing is written */
+static int sample_refused(unsigned f, const uint8_t *line, size_t size, size_t room, int number) {
+    count = 99;
+    return lipsync_sample_line((uint8_t)f, line, size, lend(), room, &count) == number && count == 0 && untouched();
+}
+
+static void sampled(unsigned f, uint8_t *line, size_t size, size_t room) {
+    uint8_t pixels[PIXELS];
+    for (unsigned k = 0; k < PIXELS; k++) {
+        unsigned first = formats[f].start + k * formats[f].step - formats[f].before, taps = formats[f].before + 1 + formats[f].after, sum = 0;
+        for (unsigned t = 0; t < taps; t++) sum += (line[2 * (first + t)] + 256u * line[2 * (first + t) + 1]) >> 2 & 0xFF;
+        pixels[k] = (uint8_t)(sum / taps);
+    }
+    count = 99;
+    int number = lipsync_sample_line((uint8_t)f, line, size, lend(), room, &count);
+    seen[number]++;
+    CHECK(number == (room < LIPSYNC_LINE_SIZE ? LIPSYNC_REFUSED_ROOM : LIPSYNC_OK));
+    CHECK(count == (number == LIPSYNC_OK ? LIPSYNC_LINE_SIZE : 0));
+    CHECK(holds(pixels, count));
+}
 
 static void lines(void) {
     static uint8_t line[2 * 4096 + 2];
-    uint8_t pixels[60];
-    for (unsigned f = 0; f < 8; f++)
+    CHECK(sizeof formats / sizeof formats[0] == LIPSYNC_FORMATS);
+    for (unsigned f = 0; f < LIPSYNC_FORMATS; f++)
         for (unsigned turn = 0; turn < 50; turn++) {
             size_t size = 2 * formats[f].width;
             for (size_t i = 0; i < sizeof line; i++) line[i] = turn ? (uint8_t)below(256) : 0xFF;
-            for (unsigned k = 0; k < 60; k++) {
-                unsigned first = formats[f].start + k * formats[f].step - formats[f].before, taps = formats[f].before + 1 + formats[f].after, sum = 0;
-                for (unsigned t = 0; t < taps; t++) sum += (line[2 * (first + t)] + 256u * line[2 * (first + t) + 1]) >> 2 & 0xFF;
-                pixels[k] = (uint8_t)(sum / taps);
-            }
-            size_t room = turn < 5 ? 60 : 40 + below(40);
-            int number = lipsync_sample_line((uint8_t)f, line, size, lend(), room, &count);
-            seen[number]++;
-            CHECK(number == (room < 60 ? 12 : 0));
-            CHECK(count == (number == 0 ? 60 : 0));
-            CHECK(holds(pixels, count));
-            CHECK(lipsync_sample_line((uint8_t)f, line, size - 2, lend(), 60, &count) == 2 && untouched());
-            CHECK(lipsync_sample_line((uint8_t)f, line, size + 1, lend(), 0, &count) == 2 && untouched());
+            sampled(f, line, size, turn < 5 ? LIPSYNC_LINE_SIZE : 40 + below(40));
+            CHECK(sample_refused(f, line, size - 2, LIPSYNC_LINE_SIZE, LIPSYNC_REFUSED_LINE_LENGTH));
+            CHECK(sample_refused(f, line, size + 1, 0, LIPSYNC_REFUSED_LINE_LENGTH));
         }
-    for (unsigned f = 8; f < 256; f++) CHECK(lipsync_sample_line((uint8_t)f, line, 0, lend(), 0, &count) == 1 && untouched());
-    CHECK(lipsync_sample_line(0, NULL, 0, NULL, 0, &count) == 2);
-    CHECK(lipsync_sample_line(9, NULL, 0, NULL, 0, &count) == 1);
-    CHECK(lipsync_sample_line(0, line, 1440, NULL, 0, &count) == 12);
+    for (unsigned f = LIPSYNC_FORMATS; f < 256; f++) CHECK(sample_refused(f, line, 0, 0, LIPSYNC_REFUSED_FORMAT));
+    CHECK(lipsync_sample_line(LIPSYNC_FORMAT_485I, NULL, 0, NULL, 0, &count) == LIPSYNC_REFUSED_LINE_LENGTH);
+    CHECK(lipsync_sample_line(9, NULL, 0, NULL, 0, &count) == LIPSYNC_REFUSED_FORMAT);
+    CHECK(lipsync_sample_line(LIPSYNC_FORMAT_485I, line, 1440, NULL, 0, &count) == LIPSYNC_REFUSED_ROOM);
+}
+
+/* ---- the header's own functions */
+
+static int field_of(unsigned f, unsigned line) {
+    for (int field = 0; field < 2; field++)
+        for (unsigned row = 0; row < MONITORED; row++)
+            if (formats[f].first[field] != 0 && line == formats[f].first[field] + row * formats[f].rows) return field + 1;
+    return 0;
+}
+
+static void header(void) {
+    char version[32];
+    snprintf(version, sizeof version, "%d.%d.%d", LIPSYNC_VERSION_MAJOR, LIPSYNC_VERSION_MINOR, LIPSYNC_VERSION_PATCH);
+    CHECK(strcmp(version, LIPSYNC_VERSION) == 0);
+    for (unsigned f = 0; f < LIPSYNC_FORMATS; f++) {
+        CHECK(lipsync_width((uint8_t)f) == formats[f].width && lipsync_lines((uint8_t)f) == formats[f].lines);
+        for (unsigned line = 0; line < 3000; line++) CHECK(lipsync_monitored((uint8_t)f, line) == field_of(f, line));
+    }
+    for (unsigned f = LIPSYNC_FORMATS; f < 256; f++)
+        CHECK(lipsync_width((uint8_t)f) == 0 && lipsync_lines((uint8_t)f) == 0 && lipsync_monitored((uint8_t)f, 68) == 0);
+}
+
+/* every number with its meaning, for tests/host.sh to hold against tools/tables.py */
+static void meanings(void) {
+    for (unsigned number = 0; number < 256; number++) printf("%u %s\n", number, lipsync_meaning((uint8_t)number));
 }
 
 /* ---- damage, from the fixed seed */
@@ -473,15 +569,21 @@ static void damage(void) {
     }
     for (int number = 20; number <= 36; number++)
         if (number != 29) CHECK(seen[number] > 50);
-    CHECK(seen[0] > 10000 && seen[12] > 1000);
+    CHECK(seen[LIPSYNC_OK] > 10000 && seen[LIPSYNC_REFUSED_ROOM] > 1000);
 }
 
-int main(void) {
+int main(int many, char **words) {
+    if (many > 1 && strcmp(words[1], "meanings") == 0) {
+        meanings();
+        return 0;
+    }
     figures();
+    largest();
     container_refusals();
     packet_refusals();
     rooms();
     lines();
+    header();
     damage();
     printf("%lu\n", checks);
     return 0;
