@@ -14,13 +14,13 @@ unfoldable pub bytesIn : ℕ → List ℕ → ℕ
 bytesIn sum l =
     byteIn (byteIn (byteIn (byteIn (byteIn sum (getD l 0 0)) (getD l 1 0)) (getD l 2 0)) (getD l 3 0)) (getD l 4 0)
 
-unfoldable pub dueOf : Fingerprint → ℕ
-dueOf f = cond (holdsOf f 5) 5 4
+unfoldable pub fourOrFive : Fingerprint → ℕ
+fourOrFive f = cond (holdsOf f 5) 5 4
 
 unfoldable pub nextTurn : ℕ → List ℕ → Turn → Turn
 nextTurn d block t = record {
-  fingerprint = takeOf (heardOf d (t .fingerprint) block) (dueOf (heardOf d (t .fingerprint) block)) .fingerprint;
-  sum = bytesIn (t .sum) (takeOf (heardOf d (t .fingerprint) block) (dueOf (heardOf d (t .fingerprint) block)) .bytes);
+  fingerprint = takeOf (heardOf d (t .fingerprint) block) (fourOrFive (heardOf d (t .fingerprint) block)) .fingerprint;
+  sum = bytesIn (t .sum) (takeOf (heardOf d (t .fingerprint) block) (fourOrFive (heardOf d (t .fingerprint) block)) .bytes);
 }
 
 unfoldable pub turns : ℕ → ℕ → List ℕ → ℕ → Turn

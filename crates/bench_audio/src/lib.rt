@@ -2,7 +2,7 @@
 use fingerprint::Fingerprint;
 ghost use mathlib.Core.Path.{_≡_};
 ghost use Prim.Native.Nat.{_<_};
-ghost use Rattle.bench_audio.specs.Turns.{byteIn, bytesIn, dueOf, nextTurn, sumAfter};
+ghost use Rattle.bench_audio.specs.Turns.{byteIn, bytesIn, fourOrFive, nextTurn, sumAfter};
 
 struct Turn {
     fingerprint: Fingerprint,
@@ -28,8 +28,8 @@ fn bytes_in(sum: u64, bytes: [u8; 5]) -> u64
 }
 
 // Five bytes where they are held, else four.
-fn due(f: Fingerprint) -> usize
-    ensures { λ r. ⌜ r ≡ dueOf f ⌝ }
+fn four_or_five(f: Fingerprint) -> usize
+    ensures { λ r. ⌜ r ≡ fourOrFive f ⌝ }
 {
     if fingerprint::holds(f, 5) { 5 } else { 4 }
 }
@@ -40,7 +40,7 @@ fn block_in(t: Turn, d: u8, block: &[u8]) -> Turn
 {
     let f = t.fingerprint;
     let g = fingerprint::heard(f, d, block);
-    let taken = fingerprint::take(g, due(g));
+    let taken = fingerprint::take(g, four_or_five(g));
     let rest = taken.fingerprint;
     let out = taken.bytes;
     let sum = bytes_in(t.sum, out);

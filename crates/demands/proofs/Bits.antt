@@ -11,7 +11,7 @@ use Rattle.laws.specs.Bytes.{Bytes}
 use Rattle.laws.proofs.Tests.{chosen}
 use Rattle.rates.specs.Rates.{intervalOf}
 use Rattle.sound.specs.Exact.{exactEnvelope, exactMean, Near}
-use Rattle.sound.proofs.Exact.{envelope-near, mean-near}
+use Rattle.fingerprint.proofs.Answers as answers
 use Rattle.container.specs.declared.Contents.{Contents}
 use Rattle.container.specs.declared.Reading.{Reading}
 use Rattle.container.specs.Contents.{blankPrint}
@@ -81,8 +81,8 @@ module _ (u : Setup) (a : accepted u ≡ true) {es : List Event} {t : Session} (
   bits-right audio-restart = tt
 
   pub stored-near : (k : ℕ) → k < length (u .mixes)
-      → Near 1024 (getD (t .prints) k noPrint .envelope) (exactEnvelope (samples es (getD (u .mixes) k 0) k))
-      × Near 8192 (getD (t .prints) k noPrint .mean) (exactMean (samples es (getD (u .mixes) k 0) k))
+      → Near 1023 (getD (t .prints) k noPrint .envelope) (exactEnvelope (samples es (getD (u .mixes) k 0) k))
+      × Near 8191 (getD (t .prints) k noPrint .mean) (exactMean (samples es (getD (u .mixes) k 0) k))
   stored-near k i =
       let v = rw (zero-add k) at (voice-at (o .voices) k i) in
-      (rw (v .envelope) (envelope-near (samples es (getD (u .mixes) k 0) k)), rw (v .mean) (mean-near (samples es (getD (u .mixes) k 0) k)))
+      answers.stored-near (getD (u .mixes) k 0) (intervalOf (u .rate)) (samples es (getD (u .mixes) k 0) k) (bitsPacked (u .rate) (sounded u es)) (getD (t .prints) k noPrint) v

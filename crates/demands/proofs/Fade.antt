@@ -6,7 +6,7 @@ use native.Mathlib.Omega.{arith}
 use native.Mathlib.Nat.{sub-zero, pow-zero, pow-suc, suc-mul, le-of-suc-le-suc, not-suc-le-zero}
 use lib.ListN.{length, getD, drop, replicate, length-append, length-replicate}
 use borrow.Author.Tests.{ltb-true, leb-true}
-use Rattle.sound.specs.Mix.{signed, sampleAt, samplesAt, weights, divisor, weighted, floor, mixed, pseudoAbsolute, instantBytes, instantValue}
+use Rattle.sound.specs.Mix.{signed, signedAt, instantSamples, weights, divisor, weighted, floor, mixed, pseudoAbsolute, instantBytes, instantValue}
 use Rattle.sound.specs.Exact.{Fraction, exactNext, exact, exactEnvelope, exactMean, MoreAbove, AtLeastAbove}
 use Rattle.sound.proofs.Exact.{den-power}
 use Rattle.fingerprint.specs.State.{valuesAt, instants, valuesOf, wholeInstants}
@@ -27,7 +27,7 @@ faded n = replicate n 0 ++ (32767 ∷ 0 ∷ [])
 -- ---- the samples
 
 pub click-values : valuesOf 1 click ≡ 32767 ∷ 0 ∷ []
-unfolding click valuesOf valuesAt instants instantBytes instantValue mixed floor weighted weights divisor samplesAt sampleAt signed pseudoAbsolute
+unfolding click valuesOf valuesAt instants instantBytes instantValue mixed floor weighted weights divisor instantSamples signedAt signed pseudoAbsolute
 click-values = refl
 
 zeros-at : (m i : ℕ) → _≡_ {A = ℕ} (getD (replicate m 0) i 0) 0
@@ -36,7 +36,7 @@ zeros-at (suc m) zero = refl
 zeros-at (suc m) (suc i) = zeros-at m i
 
 silent : (m at : ℕ) → instantValue 1 (replicate m 0) at ≡ 0
-unfolding instantValue mixed floor weighted weights divisor samplesAt sampleAt signed pseudoAbsolute
+unfolding instantValue mixed floor weighted weights divisor instantSamples signedAt signed pseudoAbsolute
 silent m at = rw (zeros-at m at, zeros-at m (at + 1)) refl
 
 silent-values : (m at n : ℕ) → valuesAt 1 (replicate m 0) at n ≡ replicate n 0

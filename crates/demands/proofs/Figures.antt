@@ -12,7 +12,7 @@ use Rattle.laws.specs.Sums.{sum}
 use Rattle.rates.specs.Rates.{rateListed}
 use Rattle.rates.specs.Mixes.{mixListed}
 use Rattle.picture.specs.Fields.{changedBy, changesIn, fingerprintOf}
-use Rattle.sound.specs.Mix.{signed, sampleAt, samplesAt, weights, divisor, weighted, floor, mixed, pseudoAbsolute}
+use Rattle.sound.specs.Mix.{signed, signedAt, instantSamples, weights, divisor, weighted, floor, mixed, pseudoAbsolute}
 use Rattle.sound.specs.Filter.{filterNext, filtered, envelopeAfter, meanAfter}
 use Rattle.container.specs.declared.Video.{Video}
 use Rattle.container.specs.declared.Video.the-variants.{Absent, One}
@@ -55,9 +55,11 @@ pub record Figures : Type 0 where
   -- -1000 becomes 999; -32768 becomes 32767
   pub thousand : pseudoAbsolute (negsuc 999) ≡ 999
   pub lowest : pseudoAbsolute (negsuc 32767) ≡ 32767
-  -- L = R = -2 mixes to -2; both -32768 mix to -23171: from the bytes FE FF FE FF and 00 80 00 80
-  pub two : mixed 2 (0xFE ∷ 0xFF ∷ 0xFE ∷ 0xFF ∷ []) 0 ≡ negsuc 1
-  pub both : mixed 2 (0x00 ∷ 0x80 ∷ 0x00 ∷ 0x80 ∷ []) 0 ≡ negsuc 23170
+  -- L = R = -2 mixes to -2; both -32768 mix to -23171; these are the samples in the bytes FE FF FE FF and 00 80 00 80
+  pub two : mixed 2 (negsuc 1 ∷ negsuc 1 ∷ []) ≡ negsuc 1
+  pub both : mixed 2 (negsuc 32767 ∷ negsuc 32767 ∷ []) ≡ negsuc 23170
+  pub two-read : instantSamples (0xFE ∷ 0xFF ∷ 0xFE ∷ 0xFF ∷ []) 0 2 ≡ negsuc 1 ∷ negsuc 1 ∷ []
+  pub both-read : instantSamples (0x00 ∷ 0x80 ∷ 0x00 ∷ 0x80 ∷ []) 0 2 ≡ negsuc 32767 ∷ negsuc 32767 ∷ []
   -- a(1) = 1000, a(2) = 0: E = 8000 then 7993, M = 1000 then 1000, whatever a(0) was
   pub envelope-1 : (a : ℕ) → envelopeAfter (1000 ∷ a ∷ []) ≡ 8000
   pub envelope-2 : (a : ℕ) → envelopeAfter (0 ∷ 1000 ∷ a ∷ []) ≡ 7993
@@ -75,7 +77,7 @@ pub record Figures : Type 0 where
   pub checksum : reading (0x00 ∷ 0x00 ∷ 0x07 ∷ 0xB1 ∷ 0x02 ∷ 0x01 ∷ 0x10 ∷ 0xFF ∷ 0x01 ∷ 0x36 ∷ []) .number ≡ 23
 
 pub figures : Figures
-unfolding changedBy fingerprintOf pseudoAbsolute mixed floor weighted weights divisor samplesAt sampleAt signed filtered filterNext reading headerNumber partsReading joined middle idPart videoPart oneField audioPart audioOf runOf printPart printAt over sum rateListed mixListed packetWords frontWords headWords wordOf withBit9 parity sum9 checkOf
+unfolding changedBy fingerprintOf pseudoAbsolute mixed floor weighted weights divisor instantSamples signedAt signed filtered filterNext reading headerNumber partsReading joined middle idPart videoPart oneField audioPart audioOf runOf printPart printAt over sum rateListed mixListed packetWords frontWords headWords wordOf withBit9 parity sum9 checkOf
 figures = record {
   unchanged-31 = λ x. (lt-leb 32 (x - (x + 31) + (x + 31 - x)) (omega arith), lt-leb 32 (x + 31 - x + (x - (x + 31))) (omega arith));
   changed-32 = λ x. (le-leb 32 (x - (x + 32) + (x + 32 - x)) (omega arith), le-leb 32 (x + 32 - x + (x - (x + 32))) (omega arith));
@@ -86,6 +88,8 @@ figures = record {
   lowest = refl;
   two = refl;
   both = refl;
+  two-read = refl;
+  both-read = refl;
   envelope-1 = λ a. refl;
   envelope-2 = λ a. refl;
   mean-1 = λ a. refl;

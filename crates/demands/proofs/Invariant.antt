@@ -100,7 +100,7 @@ module _ (u : Setup) (l : Listed u) (es : List Event) (v : Picture) (n q : ℕ) 
     holds = rw (is-set u l) (record {
       settings = refl;
       picture = o .picture;
-      voices = cleared-voices (interval-some u l) (o .voices);
+      voices = cleared-voices (o .voices);
       counter = o .counter;
       place = sym (zero-mod (length (cadence (u .rate))));
     });

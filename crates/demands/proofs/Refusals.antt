@@ -1,5 +1,5 @@
 -- A refusal changes nothing, whatever the session, and its number stands in document 01's row.
-use Prim.Native.Nat.{ℕ, _+_, _-_, _*_}
+use Prim.Native.Nat.{ℕ, _+_, _*_}
 use mathlib.Core.Path.{_≡_, refl, ap}
 use mathlib.Core.Bool.{Bool, true, false, cond, _&&_, _||_, not, or-true, false≢true}
 use mathlib.Core.List.{List, [], _∷_, _++_}
@@ -181,7 +181,7 @@ module _ (u : Setup) (l : Listed u) (es : List Event) where
   sound-number k b =
       chosen P (leb (length (u .mixes)) k) _ _ (λ _. refl)
       (λ _. chosen P (wholeInstants (getD (u .mixes) k 0) (length b)) _ _
-      (λ _. chosen P (ltb 256 (keptBits (intervalOf (u .rate)) (valuesOf m b ++ samples es m k) - bitsPacked (u .rate) (sounded u es))) 9 0 (λ _. refl) (λ _. refl))
+      (λ _. chosen P (ltb (256 + bitsPacked (u .rate) (sounded u es)) (keptBits (intervalOf (u .rate)) (valuesOf m b ++ samples es m k))) 9 0 (λ _. refl) (λ _. refl))
       (λ _. refl))
     where
       P : ℕ → Type 0

@@ -4,7 +4,7 @@ pub use Rattle.laws.proofs.Unique.{copy-at-unique as laws-copy-at}
 pub use Rattle.rates.proofs.Unique.{rate-listed-unique as rates-rate-listed, interval-unique as rates-interval, bytes-due-unique as rates-bytes-due, next-place-unique as rates-next-place, two-fields-unique as rates-two-fields, pairs-unique as rates-pairs, mix-listed-unique as rates-mix-listed}
 pub use Rattle.text.proofs.Unique.{decimal-unique as text-decimal, hex-unique as text-hex}
 pub use Rattle.sampling.proofs.Unique.{row-of-unique as sampling-row-of, sample-line-unique as sampling-sample-line}
-pub use Rattle.sound.proofs.Unique.{instant-bytes-unique as sound-instant-bytes, instant-value-unique as sound-instant-value, envelope-unique as sound-envelope, mean-unique as sound-mean}
+pub use Rattle.sound.proofs.Unique.{instant-bytes-unique as sound-instant-bytes, mono-value-unique as sound-mono-value, stereo-value-unique as sound-stereo-value, five-value-unique as sound-five-value, instant-value-unique as sound-instant-value, envelope-unique as sound-envelope, mean-unique as sound-mean}
 pub use Rattle.container.proofs.Unique.{read-container-unique as container-read-container, write-container-unique as container-write-container}
 pub use Rattle.picture.proofs.Unique.{fresh-unique as picture-fresh, is-ready-unique as picture-is-ready, restart-unique as picture-restart, hand-out-unique as picture-hand-out, line-unique as picture-line}
 pub use Rattle.fingerprint.proofs.Unique.{fresh-unique as fingerprint-fresh, restart-unique as fingerprint-restart, mix-type-unique as fingerprint-mix-type, step-unique as fingerprint-step, heard-unique as fingerprint-heard, sound-number-unique as fingerprint-sound-number, holds-unique as fingerprint-holds, take-unique as fingerprint-take}

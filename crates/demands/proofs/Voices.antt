@@ -13,9 +13,8 @@ use Rattle.fingerprint.specs.declared.Fingerprint.{Fingerprint}
 use Rattle.fingerprint.specs.State.{freshOf, valuesOf, heardOf, soundNumber, takeOf}
 use Rattle.fingerprint.specs.History.{bytesFrom, Holds}
 use Rattle.fingerprint.specs.Paper.{heldAnswer, leaveAnswer, bytesAnswer, AllRight}
-use Rattle.fingerprint.proofs.History.{holds-fresh}
-use Rattle.fingerprint.proofs.Answers.{holds-paper, takes-paper, taken-paper, all-right}
-use Rattle.fingerprint.proofs.Trace.{holds-sound, holds-take, holds-restart}
+use Rattle.fingerprint.proofs.History.{holds-fresh, holds-sound, holds-take, holds-restart}
+use Rattle.fingerprint.proofs.Answers.{holds-paper, can-take-paper, taken-paper, all-right}
 use Rattle.container.specs.declared.Print.{Print}
 use Rattle.session.specs.Prints.{each, cleared, shed, allHold, printOf, printsOf}
 use Rattle.session.specs.Session.{noPrint}
@@ -58,11 +57,11 @@ heard-voices {d} {g} {h} {k} b j (more {m = m} {f = f} v vs) (suc i) e a =
     more x (heard-voices b j vs i (omega arith) a)
 
 -- an audio restart
-pub cleared-voices : {d g : ℕ} {h : ℕ → ℕ → List ℕ} {k : ℕ} {ms : List ℕ} {fs : List Fingerprint} → 0 < d → Voices d g h k ms fs
+pub cleared-voices : {d g : ℕ} {h : ℕ → ℕ → List ℕ} {k : ℕ} {ms : List ℕ} {fs : List Fingerprint} → Voices d g h k ms fs
     → Voices d 0 (λ m n. []) k ms (each cleared (length ms) fs)
 unfolding each cleared
-cleared-voices p none = none
-cleared-voices {d} {g} {h} {k} p (more {m = m} {f = f} v vs) = more (holds-restart m d (h m k) g f v p) (cleared-voices p vs)
+cleared-voices none = none
+cleared-voices {d} {g} {h} {k} (more {m = m} {f = f} v vs) = more (holds-restart m d (h m k) g f v) (cleared-voices vs)
 
 -- all hold n bytes exactly where the paper says so
 pub all-hold : {d g : ℕ} {h : ℕ → ℕ → List ℕ} {k : ℕ} {ms : List ℕ} {fs : List Fingerprint} (n : ℕ) → Voices d g h k ms fs
@@ -86,7 +85,7 @@ unfolding everyHolds each shed
 shed-voices n l none e = none
 shed-voices {d} {g} {h} {k} n l (more {m = m} {ms = ms} {f = f} v vs) e =
     let a = both (heldAnswer d (h m k) g n) (everyHolds d g n h (suc k) ms) e in
-    more (holds-take m d (h m k) g f v n true (takes-paper m d (h m k) g f v n ∙ leaves d (h m k) g n l (a .0))) (shed-voices n l vs (a .1))
+    more (holds-take m d (h m k) g f v n true (can-take-paper m d (h m k) g f v n ∙ leaves d (h m k) g n l (a .0))) (shed-voices n l vs (a .1))
 
 same-print : (k n : ℕ) {a b : ℕ} {xs ys : List ℕ} {ps qs : List Print} → a ≡ b → xs ≡ ys → ps ≡ qs
     → record { id = k; mix = a; size = n; bytes = xs } ∷ ps ≡ record { id = k; mix = b; size = n; bytes = ys } ∷ qs
@@ -100,7 +99,7 @@ prints-said {d} {g} {h} {k} n l (more {m = m} {ms = ms} {f = f} v vs) e =
     let a = both (heldAnswer d (h m k) g n) (everyHolds d g n h (suc k) ms) e in
     let t : takeOf f n .bytes ≡ bytesFrom d (h m k) g n ++ replicate (5 - n) 0 =
     taken-paper m d (h m k) g f v n ∙ given d (h m k) g n (leaves d (h m k) g n l (a .0)) in
-    same-print k n (v .mixed) t (prints-said n l vs (a .1))
+    same-print k n (v .mix-type) t (prints-said n l vs (a .1))
 
 -- demand 3: each bit of those bytes
 pub voice-right : {d g : ℕ} {h : ℕ → ℕ → List ℕ} {k : ℕ} {ms : List ℕ} {fs : List Fingerprint} (n : ℕ) → n ≤ 5 → Voices d g h k ms fs
@@ -112,7 +111,7 @@ voice-right {d} {g} {h} {k} n l (more {m = m} {ms = ms} {f = f} v vs) e zero j =
     let a = both (heldAnswer d (h m k) g n) (everyHolds d g n h (suc k) ms) e in
     let t = leaves d (h m k) g n l (a .0) in
     let b : takeOf f n .bytes ≡ bytesFrom d (h m k) g n ++ replicate (5 - n) 0 = taken-paper m d (h m k) g f v n ∙ given d (h m k) g n t in
-    rw (add-zero k, ← b) (all-right m d (h m k) g f v n (takes-paper m d (h m k) g f v n ∙ t))
+    rw (add-zero k, ← b) (all-right m d (h m k) g f v n (can-take-paper m d (h m k) g f v n ∙ t))
 voice-right {d} {g} {h} {k} n l (more {m = m} {ms = ms} v vs) e (suc i) j =
     let a = both (heldAnswer d (h m k) g n) (everyHolds d g n h (suc k) ms) e in
     rw (add-suc k i, ← (suc-add k i)) (voice-right n l vs (a .1) i (le-of-suc-le-suc j))

@@ -5,20 +5,28 @@ use mathlib.Core.List.{List, [], _∷_, _++_}
 use mathlib.Core.Bool.{Bool, true, false, _&&_}
 use native.Mathlib.Nat.{mul-le-mul-right}
 use native.Mathlib.Omega.{arith}
-use lib.Dec.{leb}
+use lib.Dec.{leb, ltb}
 use lib.ListN.{length, getD, take, replicate, length-append, List·getD-append}
 use lib.Seq.{take-suc, getD-take, length-take-le}
-use borrow.Author.Tests.{le-leb, lt-leb}
+use borrow.Author.Tests.{le-leb, lt-leb, lt-ltb, le-ltb}
+use Rattle.sound.specs.Exact.{exactEnvelope, exactMean, Near}
 use Rattle.sound.proofs.Whole.{by-order}
-use Rattle.sound.proofs.Exact.{bit-one, bit-zero}
+use Rattle.sound.proofs.Exact.{envelope-near, mean-near, bit-one, bit-zero}
 use Rattle.fingerprint.specs.declared.Fingerprint.{Fingerprint}
-use Rattle.fingerprint.specs.State.{newBits, instants, valuesOf, soundNumber, holdsOf, firstBytes, takes, takeOf}
+use Rattle.fingerprint.specs.State.{newBits, instants, valuesOf, soundNumber, holdsOf, firstBytes, canTake, takeOf}
 use Rattle.fingerprint.specs.History.{upTo, bitAt, keptAmong, keptBits, bitsFrom, fromBits, bytesFrom, bitIn, Holds}
 use Rattle.fingerprint.specs.Paper.{soundAnswer, heldAnswer, leaveAnswer, bytesAnswer, Right, AllRight}
 use Rattle.fingerprint.proofs.Bits.{bit, bit-at, byte-is}
 use Rattle.fingerprint.proofs.History.{holds-kept, held-with}
 use Rattle.fingerprint.proofs.Steps.{length-values}
-use Rattle.fingerprint.proofs.Taking.{takes-room}
+use Rattle.fingerprint.proofs.Taking.{can-take-room}
+
+-- n bits above 256, and with those that have left the bits kept above 256 and these
+above : (taken n kept : ℕ) → taken + n ≡ kept → ltb 256 n ≡ ltb (256 + taken) kept
+above taken n kept e =
+    by-order 256 n
+    (λ l. lt-ltb 256 n l ∙ sym (lt-ltb (256 + taken) kept (omega arith)))
+    (λ l. le-ltb 256 n l ∙ sym (le-ltb (256 + taken) kept (omega arith)))
 
 module _ (mix d : ℕ) (h : List ℕ) (taken : ℕ) (f : Fingerprint) (H : Holds mix d h taken f) where
   pub sound-paper : (block : List ℕ) → soundNumber d f (length block) ≡ soundAnswer mix d h taken block
@@ -27,9 +35,9 @@ module _ (mix d : ℕ) (h : List ℕ) (taken : ℕ) (f : Fingerprint) (H : Holds
       let n : ℕ = instants mix (length block) in
       let e : length (valuesOf mix block ++ h) ≡ n + length h =
       length-append (valuesOf mix block) h ∙ ap (λ (m : ℕ). m + length h) (length-values mix block 0 n) in
-      let s : f .held + newBits d (f .wait) n ≡ keptAmong d (length (valuesOf mix block ++ h)) - taken =
-      omega (arith, held-with mix d h taken f H n, ap (keptAmong d) e) in
-      rw (H .mixed, s)
+      let s = above taken (f .held + newBits d (f .wait) n) (keptAmong d (length (valuesOf mix block ++ h)))
+      (held-with mix d h taken f H n ∙ ap (keptAmong d) (sym e)) in
+      rw (H .mix-type, s)
 
   pub holds-paper : (n : ℕ) → holdsOf f n ≡ heldAnswer d h taken n
   unfolding holdsOf heldAnswer
@@ -39,9 +47,9 @@ module _ (mix d : ℕ) (h : List ℕ) (taken : ℕ) (f : Fingerprint) (H : Holds
       (λ l. lt-leb (8 * n) (f .held) l ∙ sym (lt-leb (taken + 8 * n) (keptBits d h) (omega arith)))
       (λ l. le-leb (8 * n) (f .held) l ∙ sym (le-leb (taken + 8 * n) (keptBits d h) (omega arith)))
 
-  pub takes-paper : (n : ℕ) → takes f n ≡ leaveAnswer d h taken n
-  unfolding takes leaveAnswer
-  takes-paper n = ap (λ (b : Bool). leb n 5 && b) (holds-paper n)
+  pub can-take-paper : (n : ℕ) → canTake f n ≡ leaveAnswer d h taken n
+  unfolding canTake leaveAnswer
+  can-take-paper n = ap (λ (b : Bool). leb n 5 && b) (holds-paper n)
 
   -- byte b of those held is made of its own samples' bits
   byte-paper : (b : ℕ) → 8 * b + 8 ≤ f .held → getD (f .bytes) b 0 ≡ fromBits (bitsFrom d h (taken + 8 * b)) 8
@@ -62,11 +70,11 @@ module _ (mix d : ℕ) (h : List ℕ) (taken : ℕ) (f : Fingerprint) (H : Holds
 
   pub taken-paper : (n : ℕ) → takeOf f n .bytes ≡ bytesAnswer d h taken n
   unfolding takeOf bytesAnswer firstBytes
-  taken-paper n = go (takes f n) refl
+  taken-paper n = go (canTake f n) refl
     where
-      go : (b : Bool) → takes f n ≡ b → takeOf f n .bytes ≡ bytesAnswer d h taken n
-      go true e = rw (e, ← takes-paper n, e) (ap (λ (xs : List ℕ). xs ++ replicate (5 - n) 0) (bytes-paper n (takes-room f n e .1)))
-      go false e = rw (e, ← takes-paper n, e)
+      go : (b : Bool) → canTake f n ≡ b → takeOf f n .bytes ≡ bytesAnswer d h taken n
+      go true e = rw (e, ← can-take-paper n, e) (ap (λ (xs : List ℕ). xs ++ replicate (5 - n) 0) (bytes-paper n (can-take-room f n e .1)))
+      go false e = rw (e, ← can-take-paper n, e)
 
 -- ---- demand 3
 
@@ -75,17 +83,21 @@ unfolding bitAt
 right h i = record { one = bit-one (upTo h i); zero = bit-zero (upTo h i) }
 
 module _ (mix d : ℕ) (h : List ℕ) (taken : ℕ) (f : Fingerprint) (H : Holds mix d h taken f) where
+  -- the stored envelope is never below the exact one nor more than 1,023 above it, the stored mean nor more than 8,191
+  pub stored-near : Near 1023 (f .envelope) (exactEnvelope h) × Near 8191 (f .mean) (exactMean h)
+  stored-near = (rw (H .envelope) (envelope-near h), rw (H .mean) (mean-near h))
+
   -- the bits that leave are those that were held
-  left-bit : (n j : ℕ) → takes f n ≡ true → j < 8 * n → bitIn (takeOf f n .bytes) j ≡ bitIn (f .bytes) j
+  left-bit : (n j : ℕ) → canTake f n ≡ true → j < 8 * n → bitIn (takeOf f n .bytes) j ≡ bitIn (f .bytes) j
   unfolding bitIn takeOf firstBytes
   left-bit n j e l =
-      let r = takes-room f n e in
+      let r = can-take-room f n e in
       let k : j / 8 < length (take n (f .bytes)) = rw (length-take-le n (f .bytes) (omega (arith, H .size))) (omega arith) in
       let i : j / 8 < n = omega arith in
       rw (e, List·getD-append (take n (f .bytes)) (replicate (5 - n) 0) 0 (j / 8) k, getD-take n (f .bytes) (j / 8) 0 i)
 
-  pub all-right : (n : ℕ) → takes f n ≡ true → AllRight d h taken (takeOf f n .bytes) n
+  pub all-right : (n : ℕ) → canTake f n ≡ true → AllRight d h taken (takeOf f n .bytes) n
   all-right n e j l =
-      let r = takes-room f n e in
+      let r = can-take-room f n e in
       let m = mul-le-mul-right {m = taken + j + 1} {n = taken + f .held} d (omega arith) in
       (omega (arith, H .next, H .soon), rw (left-bit n j e l, H .bits j (omega arith)) (right h ((taken + j) * d)))

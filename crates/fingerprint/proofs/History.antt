@@ -1,23 +1,24 @@
--- A fingerprint is what its history says: one lemma each for a fresh one, a sample, a block heard, bytes taken.
+-- A fingerprint is what its history says: one lemma each for a fresh one, a sample, a block heard, bytes taken, and each call.
 use Prim.Native.Nat.{ℕ, suc, _+_, _-_, _*_, _/_, _<_, _≤_}
 use mathlib.Core.Path.{_≡_, refl, sym, ap, subst, _∙_}
 use mathlib.Core.Logic.{_≢_}
 use mathlib.Core.List.{List, [], _∷_, _++_}
-use mathlib.Core.Bool.{Bool, true, cond}
+use mathlib.Core.Bool.{Bool, true, false, cond}
 use native.Mathlib.Nat.{add-mul, div-add-mod', mod-lt, mul-le-mul-right, not-suc-le-zero}
 use native.Mathlib.Omega.{arith}
 use native.Mathlib.Decide.{ℕ-discrete}
-use lib.Dec.{ltb}
+use lib.Dec.{ltb, eqb}
 use lib.ListN.{length, getD, drop, length-append}
-use borrow.Author.Tests.{eq-eqb, ne-eqb, lt-ltb}
+use borrow.Author.Tests.{eq-eqb, ne-eqb, lt-ltb, eqb-true}
 use Rattle.sound.specs.Filter.{filterNext, filtered, envelopeAfter, meanAfter, bitOf}
 use Rattle.sound.proofs.Whole.{by-order}
 use Rattle.fingerprint.specs.declared.Fingerprint.{Fingerprint}
-use Rattle.fingerprint.specs.State.{freshOf, filteredOf, withBit, holding, pushedOf, waiting, keptOf, stepOf, after, instants, valuesOf, heardOf, newBits, without}
+use Rattle.fingerprint.specs.State.{freshOf, filteredOf, withBit, holding, pushedOf, withWait, keptOf, stepOf, after, instants, valuesOf, heardOf, newBits, soundNumber, canTake, without, takeOf}
 use Rattle.fingerprint.specs.History.{upTo, bitAt, keptAmong, keptBits, bitIn, some, Holds}
 use Rattle.fingerprint.proofs.Bits.{kept-bit, other-bit, length-bit, small-bit, shifted-bit, length-shifted, small-shifted, small-zeros, zero-bits, same-bytes}
-use Rattle.fingerprint.proofs.Counts.{bits-none, bits-some, bits-more, kept-count}
+use Rattle.fingerprint.proofs.Counts.{bits-none, bits-some, bits-more, kept-count, number-fits}
 use Rattle.fingerprint.proofs.Steps.{length-values}
+use Rattle.fingerprint.proofs.Taking.{can-take-room}
 
 -- ---- the samples
 
@@ -72,7 +73,7 @@ module _ (mix d : ℕ) (h : List ℕ) (taken : ℕ) (f : Fingerprint) (H : Holds
 pub holds-fresh : (mix d : ℕ) → 0 < d → Holds mix d [] 0 (freshOf mix)
 unfolding freshOf filtered some
 holds-fresh mix d p = record {
-  mixed = refl;
+  mix-type = refl;
   envelope = refl;
   mean = refl;
   started = refl;
@@ -114,7 +115,7 @@ module _ (mix d : ℕ) (h : List ℕ) (taken : ℕ) (f : Fingerprint) (H : Holds
       → Holds mix d (a ∷ h) taken (stepOf d f a)
   unfolding made some
   grown w n bytes is next soon room size small bits clean = subst (λ (g : Fingerprint). Holds mix d (a ∷ h) taken g) (sym is) (record {
-    mixed = H .mixed;
+    mix-type = H .mix-type;
     envelope = envelope-next;
     mean = mean-next;
     started = refl;
@@ -142,7 +143,7 @@ module _ (mix d : ℕ) (h : List ℕ) (taken : ℕ) (f : Fingerprint) (H : Holds
     fits = omega (arith, H .size)
 
     kept-is : stepOf d f a ≡ made (f .mix) (filteredOf f a .envelope) (filteredOf f a .mean) (d - 1) true (f .held + 1) (withBit one (f .bytes) (f .held))
-    unfolding stepOf keptOf waiting pushedOf holding filteredOf one made
+    unfolding stepOf keptOf withWait pushedOf holding filteredOf one made
     kept-is = rw (eq-eqb (f .wait) 0 z, lt-ltb (f .held) 256 free)
 
     bits-kept : (k : ℕ) → k < f .held + 1 → bitIn (withBit one (f .bytes) (f .held)) k ≡ bitAt (a ∷ h) ((taken + k) * d)
@@ -160,7 +161,7 @@ module _ (mix d : ℕ) (h : List ℕ) (taken : ℕ) (f : Fingerprint) (H : Holds
   -- a sample that is passed
   module _ (z : f .wait ≢ 0) where
     passed-is : stepOf d f a ≡ made (f .mix) (filteredOf f a .envelope) (filteredOf f a .mean) (f .wait - 1) true (f .held) (f .bytes)
-    unfolding stepOf keptOf waiting filteredOf made
+    unfolding stepOf keptOf withWait filteredOf made
     passed-is = rw (ne-eqb (f .wait) 0 z)
 
     holds-passing : Holds mix d (a ∷ h) taken (stepOf d f a)
@@ -195,14 +196,14 @@ module _ (mix d : ℕ) (h : List ℕ) (taken : ℕ) (f : Fingerprint) (H : Holds
   pub holds-heard : (block : List ℕ) → f .held + newBits d (f .wait) (instants mix (length block)) ≤ 256 → Holds mix d (valuesOf mix block ++ h) taken (heardOf d f block)
   unfolding heardOf valuesOf
   holds-heard block fit =
-      subst (λ (m : ℕ). Holds mix d (valuesOf mix block ++ h) taken (after d f (valuesOf m block))) (sym (H .mixed))
+      subst (λ (m : ℕ). Holds mix d (valuesOf mix block ++ h) taken (after d f (valuesOf m block))) (sym (H .mix-type))
       (holds-after (valuesOf mix block) (rw (length-values mix block 0 (instants mix (length block))) fit))
 
 -- n whole bytes leave
 pub holds-taken : (mix d : ℕ) (h : List ℕ) (taken : ℕ) (f : Fingerprint) → Holds mix d h taken f → (n : ℕ) → 8 * n ≤ f .held → Holds mix d h (taken + 8 * n) (without f n)
 unfolding without holding
 holds-taken mix d h taken f H n fit = record {
-  mixed = H .mixed;
+  mix-type = H .mix-type;
   envelope = H .envelope;
   mean = H .mean;
   started = H .started;
@@ -218,6 +219,25 @@ holds-taken mix d h taken f H n fit = record {
       shifted-bit (f .bytes) n k ∙ (H .bits (8 * n + k) (omega arith) ∙ ap (λ (m : ℕ). bitAt h (m * d)) e);
   clean = λ k l. shifted-bit (f .bytes) n k ∙ H .clean (8 * n + k) (omega arith);
 }
+
+module _ (mix d : ℕ) (h : List ℕ) (taken : ℕ) (f : Fingerprint) (H : Holds mix d h taken f) where
+  -- a block, heard where its number is 0
+  pub holds-sound : (block : List ℕ) (b : Bool) → eqb (soundNumber d f (length block)) 0 ≡ b
+      → Holds mix d (cond b (valuesOf mix block ++ h) h) taken (cond b (heardOf d f block) f)
+  holds-sound block false e = H
+  holds-sound block true e =
+      let room = number-fits d f (length block) (eqb-true (soundNumber d f (length block)) 0 e) in
+      holds-heard mix d h taken f H block
+      (subst (λ (m : ℕ). f .held + newBits d (f .wait) (instants m (length block)) ≤ 256) (H .mix-type) room)
+
+  -- n bytes, taken where they are held
+  pub holds-take : (n : ℕ) (b : Bool) → canTake f n ≡ b → Holds mix d h (cond b (taken + 8 * n) taken) (takeOf f n .fingerprint)
+  unfolding takeOf
+  holds-take n false e = rw e H
+  holds-take n true e = rw e (holds-taken mix d h taken f H n (can-take-room f n e .1))
+
+  pub holds-restart : Holds mix d [] 0 (freshOf (f .mix))
+  holds-restart = subst (λ (m : ℕ). Holds mix d [] 0 (freshOf m)) (sym (H .mix-type)) (holds-fresh mix d (positive mix d h taken f H))
 
 -- one history, one fingerprint
 module _ (mix d : ℕ) (h : List ℕ) (taken : ℕ) (f g : Fingerprint) (F : Holds mix d h taken f) (G : Holds mix d h taken g) where
@@ -237,5 +257,5 @@ module _ (mix d : ℕ) (h : List ℕ) (taken : ℕ) (f g : Fingerprint) (F : Hol
   holds-once =
       let same : made (f .mix) (f .envelope) (f .mean) (f .wait) (f .started) (f .held) (f .bytes)
       ≡ made (g .mix) (g .envelope) (g .mean) (g .wait) (g .started) (g .held) (g .bytes) =
-      cc (F .mixed, G .mixed, F .envelope, G .envelope, F .mean, G .mean, F .started, G .started, one-held, one-wait, one-bits) in
+      cc (F .mix-type, G .mix-type, F .envelope, G .envelope, F .mean, G .mean, F .started, G .started, one-held, one-wait, one-bits) in
       sym (made-is f) ∙ (same ∙ made-is g)

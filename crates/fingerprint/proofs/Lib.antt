@@ -6,5 +6,4 @@ pub mod Bytes
 pub mod Bits
 pub mod History
 pub mod Answers
-pub mod Trace
 pub mod Unique

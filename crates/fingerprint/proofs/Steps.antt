@@ -10,35 +10,35 @@ use borrow.Author.Tests.{eq-eqb, ne-eqb}
 use Rattle.sound.specs.Mix.{instantBytes}
 use Rattle.fingerprint.specs.declared.Fingerprint.{Fingerprint}
 use Rattle.fingerprint.specs.declared.Filters.{Filters}
-use Rattle.fingerprint.specs.State.{filteredOf, holding, pushedOf, waiting, keptOf, stepOf, after, valuesAt}
-use Rattle.fingerprint.specs.Parts.{nextFilters, throughOf, joinedOf}
+use Rattle.fingerprint.specs.State.{filteredOf, holding, pushedOf, withWait, keptOf, stepOf, after, valuesAt}
+use Rattle.fingerprint.specs.Parts.{nextFilters, throughOf, withFiltersOf}
 
 module _ (d : ℕ) (g : Fingerprint) (v : Filters) (w a : ℕ) where
-  pub step-kept : w ≡ 0 → joinedOf (pushedOf g (ltb (nextFilters v a .mean) (nextFilters v a .envelope))) (nextFilters v a) (d - 1) ≡ stepOf d (joinedOf g v w) a
-  unfolding stepOf keptOf filteredOf pushedOf holding waiting joinedOf nextFilters
+  pub step-kept : w ≡ 0 → withFiltersOf (pushedOf g (ltb (nextFilters v a .mean) (nextFilters v a .envelope))) (nextFilters v a) (d - 1) ≡ stepOf d (withFiltersOf g v w) a
+  unfolding stepOf keptOf filteredOf pushedOf holding withWait withFiltersOf nextFilters
   step-kept e = simp (eq-eqb w 0 e)
 
-  pub step-passed : (w ≡ 0 → ⊥) → joinedOf g (nextFilters v a) (w - 1) ≡ stepOf d (joinedOf g v w) a
-  unfolding stepOf keptOf filteredOf waiting joinedOf nextFilters
+  pub step-passed : (w ≡ 0 → ⊥) → withFiltersOf g (nextFilters v a) (w - 1) ≡ stepOf d (withFiltersOf g v w) a
+  unfolding stepOf keptOf filteredOf withWait withFiltersOf nextFilters
   step-passed e = simp (ne-eqb w 0 e)
 
   -- a kept sample, after those of h
-  pub kept-on : (f : Fingerprint) (h : List ℕ) (v′ : Filters) (g′ : Fingerprint) (w′ : ℕ) → joinedOf g v w ≡ after d f h → w ≡ 0
-      → v′ ≡ nextFilters v a → g′ ≡ pushedOf g (ltb (v′ .mean) (v′ .envelope)) → w′ ≡ d - 1 → joinedOf g′ v′ w′ ≡ after d f (a ∷ h)
+  pub kept-on : (f : Fingerprint) (h : List ℕ) (v′ : Filters) (g′ : Fingerprint) (w′ : ℕ) → withFiltersOf g v w ≡ after d f h → w ≡ 0
+      → v′ ≡ nextFilters v a → g′ ≡ pushedOf g (ltb (v′ .mean) (v′ .envelope)) → w′ ≡ d - 1 → withFiltersOf g′ v′ w′ ≡ after d f (a ∷ h)
   unfolding after
   kept-on f h v′ g′ w′ before z next e k =
-      ap₂ (λ (x : Fingerprint) (m : ℕ). joinedOf x v′ m) e k
-      ∙ (ap (λ (u : Filters). joinedOf (pushedOf g (ltb (u .mean) (u .envelope))) u (d - 1)) next
+      ap₂ (λ (x : Fingerprint) (m : ℕ). withFiltersOf x v′ m) e k
+      ∙ (ap (λ (u : Filters). withFiltersOf (pushedOf g (ltb (u .mean) (u .envelope))) u (d - 1)) next
       ∙ (step-kept z ∙ ap (λ (x : Fingerprint). stepOf d x a) before))
 
 -- samples of which none is kept
-pub passed : (d : ℕ) (g : Fingerprint) (v : Filters) (w : ℕ) (h : List ℕ) → length h ≤ w → after d (joinedOf g v w) h ≡ joinedOf g (throughOf v h) (w - length h)
+pub passed : (d : ℕ) (g : Fingerprint) (v : Filters) (w : ℕ) (h : List ℕ) → length h ≤ w → after d (withFiltersOf g v w) h ≡ withFiltersOf g (throughOf v h) (w - length h)
 unfolding after throughOf
-passed d g v w [] l = ap (joinedOf g v) (sym (sub-zero w))
+passed d g v w [] l = ap (withFiltersOf g v) (sym (sub-zero w))
 passed d g v w (a ∷ h) l =
     let e : w - length h - 1 ≡ w - suc (length h) = omega arith in
     ap (λ (x : Fingerprint). stepOf d x a) (passed d g v w h (omega arith))
-    ∙ (sym (step-passed d g (throughOf v h) (w - length h) a (omega arith)) ∙ ap (joinedOf g (nextFilters (throughOf v h) a)) e)
+    ∙ (sym (step-passed d g (throughOf v h) (w - length h) a (omega arith)) ∙ ap (withFiltersOf g (nextFilters (throughOf v h) a)) e)
 
 pub after-append : (d : ℕ) (f : Fingerprint) (xs ys : List ℕ) → after d f (xs ++ ys) ≡ after d (after d f ys) xs
 unfolding after
@@ -59,13 +59,13 @@ values-more mix block at m (suc n) =
 
 -- n samples of a block of which none is kept, after the first i
 pub run-on : (d : ℕ) (f g : Fingerprint) (v v′ : Filters) (w mix : ℕ) (block : List ℕ) (at i n : ℕ)
-    → joinedOf g v w ≡ after d f (valuesAt mix block 0 i) → at ≡ i * instantBytes mix → n ≤ w → v′ ≡ throughOf v (valuesAt mix block at n)
-    → joinedOf g v′ (w - n) ≡ after d f (valuesAt mix block 0 (i + n))
+    → withFiltersOf g v w ≡ after d f (valuesAt mix block 0 i) → at ≡ i * instantBytes mix → n ≤ w → v′ ≡ throughOf v (valuesAt mix block at n)
+    → withFiltersOf g v′ (w - n) ≡ after d f (valuesAt mix block 0 (i + n))
 run-on d f g v v′ w mix block at i n before place l next =
     let h = valuesAt mix block at n in
     let same : at ≡ 0 + i * instantBytes mix = omega arith in
     let size = length-values mix block at n in
-    ap₂ (joinedOf g) next (ap (_-_ w) (sym size))
+    ap₂ (withFiltersOf g) next (ap (_-_ w) (sym size))
     ∙ (sym (passed d g v w h (omega arith))
     ∙ (ap (λ (x : Fingerprint). after d x h) before
     ∙ (sym (after-append d f h (valuesAt mix block 0 i))

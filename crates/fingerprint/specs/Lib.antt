@@ -1,6 +1,5 @@
--- The definitions: a fingerprint and its calls, its history, document 01's answers.
+-- The definitions: a fingerprint and what each call makes of it, its history, document 01's answers.
 pub mod State
 pub mod Parts
 pub mod History
-pub mod Calls
 pub mod Paper

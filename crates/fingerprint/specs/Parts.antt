@@ -21,8 +21,8 @@ unfoldable pub throughOf : Filters → List ℕ → Filters
 throughOf v [] = v
 throughOf v (a ∷ h) = nextFilters (throughOf v h) a
 
-unfoldable pub joinedOf : Fingerprint → Filters → ℕ → Fingerprint
-joinedOf f v wait = record {
+unfoldable pub withFiltersOf : Fingerprint → Filters → ℕ → Fingerprint
+withFiltersOf f v wait = record {
   mix = f .mix;
   envelope = v .envelope;
   mean = v .mean;

@@ -40,12 +40,12 @@ pushedOf f one =
     holding f (cond (ltb (f .held) 256) (f .held + 1) (f .held)) (cond (ltb (f .held) 256) (withBit one (f .bytes) (f .held)) (f .bytes))
 
 -- a fingerprint before whose next kept sample n samples pass
-unfoldable pub waiting : Fingerprint → ℕ → Fingerprint
-waiting f n = record { mix = f .mix; envelope = f .envelope; mean = f .mean; wait = n; started = f .started; held = f .held; bytes = f .bytes }
+unfoldable pub withWait : Fingerprint → ℕ → Fingerprint
+withWait f n = record { mix = f .mix; envelope = f .envelope; mean = f .mean; wait = n; started = f .started; held = f .held; bytes = f .bytes }
 
 -- "The bit is 1 if M(i) < E(i)"; "Bits are kept at i = 0, D, 2D and so on": where no sample is waited for, and then D - 1 samples pass
 unfoldable pub keptOf : ℕ → Fingerprint → Fingerprint
-keptOf d f = cond (eqb (f .wait) 0) (waiting (pushedOf f (ltb (f .mean) (f .envelope))) (d - 1)) (waiting f (f .wait - 1))
+keptOf d f = cond (eqb (f .wait) 0) (withWait (pushedOf f (ltb (f .mean) (f .envelope))) (d - 1)) (withWait f (f .wait - 1))
 
 -- one mixed sample
 unfoldable pub stepOf : ℕ → Fingerprint → ℕ → Fingerprint
@@ -102,8 +102,8 @@ unfoldable pub firstBytes : ℕ → List ℕ → List ℕ
 firstBytes n bytes = take n bytes ++ replicate (5 - n) 0
 
 -- at most 5 are taken, and only those that are held
-unfoldable pub takes : Fingerprint → ℕ → Bool
-takes f n = leb n 5 && holdsOf f n
+unfoldable pub canTake : Fingerprint → ℕ → Bool
+canTake f n = leb n 5 && holdsOf f n
 
 -- "bits that have been packed free their room"
 unfoldable pub without : Fingerprint → ℕ → Fingerprint
@@ -111,6 +111,6 @@ without f n = holding f (f .held - 8 * n) (shifted n (f .bytes))
 
 unfoldable pub takeOf : Fingerprint → ℕ → Taken
 takeOf f n =
-    cond (takes f n)
+    cond (canTake f n)
     (record { fingerprint = without f n; bytes = firstBytes n (f .bytes) })
     (record { fingerprint = f; bytes = replicate 5 0 })

@@ -4,7 +4,7 @@ ghost use Prim.Native.Nat.{_+_, _-_, _*_, _%_, _≤_, _<_};
 ghost use lib.ListN.{length};
 ghost use Rattle.sound.specs.Mix.{instantBytes};
 ghost use Rattle.fingerprint.specs.State.{freshOf, pushedOf, stepOf, heardOf, valuesAt, instants, wholeInstants, newBits, soundNumber, holdsOf, shifted, firstBytes, takeOf};
-ghost use Rattle.fingerprint.specs.Parts.{nextFilters, throughOf, joinedOf};
+ghost use Rattle.fingerprint.specs.Parts.{nextFilters, throughOf, withFiltersOf};
 
 // envelope and mean are E(i) and M(i) of the newest sample i; started says that there was one. wait samples pass before the next kept one.
 // held bits are not yet taken; bit k of them is bit k % 8 of byte k / 8.
@@ -61,7 +61,7 @@ pub fn mix_type(f: Fingerprint) -> u8
 }
 
 // A sample enters both filters, unless it is sample 0.
-fn filtered(v: Filters, a: u16) -> Filters
+fn next_filters(v: Filters, a: u16) -> Filters
     ensures { λ r. ⌜ r ≡ nextFilters v a ⌝ }
 {
     if v.started {
@@ -105,8 +105,8 @@ fn pushed(f: Fingerprint, one: bool) -> Fingerprint
 }
 
 // A fingerprint with its filters and its wait put back.
-fn joined(f: Fingerprint, v: Filters, wait: u8) -> Fingerprint
-    ensures { λ r. ⌜ r ≡ joinedOf f v wait ⌝ }
+fn with_filters(f: Fingerprint, v: Filters, wait: u8) -> Fingerprint
+    ensures { λ r. ⌜ r ≡ withFiltersOf f v wait ⌝ }
 {
     let mut next = f;
     next.envelope = v.envelope;
@@ -127,7 +127,7 @@ fn less_one(d: u8) -> u8
 pub fn step(f: Fingerprint, a: u16, d: u8) -> Fingerprint
     ensures { λ r. ⌜ r ≡ stepOf d f a ⌝ }
 {
-    let v = filtered(
+    let v = next_filters(
         Filters {
             envelope: f.envelope,
             mean: f.mean,
@@ -137,9 +137,9 @@ pub fn step(f: Fingerprint, a: u16, d: u8) -> Fingerprint
     );
     let wait = f.wait;
     if wait == 0 {
-        joined(pushed(f, v.mean < v.envelope), v, less_one(d))
+        with_filters(pushed(f, v.mean < v.envelope), v, less_one(d))
     } else {
-        joined(f, v, wait - 1)
+        with_filters(f, v, wait - 1)
     }
 }
 
@@ -164,7 +164,7 @@ fn through_as(v: Filters, mix: u8, block: &[u8], at: usize, n: usize) -> Filters
     let mut p = at;
     let mut i = 0;
     while i < n {
-        next = filtered(next, sound::instant_value(mix, block, p));
+        next = next_filters(next, sound::instant_value(mix, block, p));
         p = p + size;
         i += 1;
     }
@@ -218,7 +218,7 @@ pub fn heard(f: Fingerprint, d: u8, block: &[u8]) -> Fingerprint
     let mut i = 0;
     while i < n {
         if wait == 0 {
-            v = filtered(v, sound::instant_value(mix, block, at));
+            v = next_filters(v, sound::instant_value(mix, block, at));
             rest = pushed(rest, v.mean < v.envelope);
             wait = pause;
             at = at + size;
@@ -231,7 +231,7 @@ pub fn heard(f: Fingerprint, d: u8, block: &[u8]) -> Fingerprint
             i = i + (k as usize);
         }
     }
-    joined(rest, v, wait)
+    with_filters(rest, v, wait)
 }
 
 // How many of the next n samples are kept: the first after the wait, and then each d-th.

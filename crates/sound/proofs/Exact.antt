@@ -23,7 +23,7 @@ module _ (j g : ℕ) where
       = omega (arith, mul-sub (suc j) v (v / suc j), div-add-mod v (suc j), mul-le-mul-left (suc j) (div-le-self v (suc j))) in
       omega (arith, ap (λ (n : ℕ). n * p) h)
 
-  near-next : (v : ℕ) (x : Fraction) (a : ℕ) → Near (suc j) v x → Near (suc j) (filterNext (suc j) g v a) (exactNext (suc j) g x a)
+  near-next : (v : ℕ) (x : Fraction) (a : ℕ) → Near j v x → Near j (filterNext (suc j) g v a) (exactNext (suc j) g x a)
   unfolding filterNext exactNext
   near-next v x a n =
       let e = kept v (x .den) in
@@ -32,8 +32,8 @@ module _ (j g : ℕ) where
       let t = mul-le-mul-left j (n .above) in
       record { below = omega arith; above = omega arith }
 
-  -- the stored value is never below the exact one, nor more than the divisor less one above it
-  pub near : (h : List ℕ) → Near (suc j) (filtered (suc j) g h) (exact (suc j) g h)
+  -- the stored value is never below the exact one, nor more than j above it, the divisor less one
+  pub near : (h : List ℕ) → Near j (filtered (suc j) g h) (exact (suc j) g h)
   unfolding filtered exact
   near [] = omega arith
   near (a ∷ []) = omega arith
@@ -45,19 +45,19 @@ module _ (j g : ℕ) where
   den-pos (a ∷ []) = omega arith
   den-pos (a ∷ (b ∷ h)) = mul-pos {m = suc j} (omega arith) (den-pos (b ∷ h))
 
-pub envelope-near : (h : List ℕ) → Near 1024 (envelopeAfter h) (exactEnvelope h)
+pub envelope-near : (h : List ℕ) → Near 1023 (envelopeAfter h) (exactEnvelope h)
 envelope-near h = near 1023 8 h
 
-pub mean-near : (h : List ℕ) → Near 8192 (meanAfter h) (exactMean h)
+pub mean-near : (h : List ℕ) → Near 8191 (meanAfter h) (exactMean h)
 mean-near h = near 8191 1 h
 
 -- two stored values, from the exact ones
-more : (i j e m : ℕ) (x y : Fraction) → Near (suc i) e x → Near (suc j) m y → MoreAbove j x y → m < e
+more : (i j e m : ℕ) (x y : Fraction) → Near i e x → Near j m y → MoreAbove j x y → m < e
 more i j e m x y nx ny h =
     lt-of-mul-lt-mul-right (x .den * y .den)
     (omega (arith, mul-le-mul-right (y .den) (nx .below), mul-le-mul-right (x .den) (ny .above)))
 
-less : (i j e m : ℕ) (x y : Fraction) → 0 < x .den → 0 < y .den → Near (suc i) e x → Near (suc j) m y → AtLeastAbove i y x → e ≤ m
+less : (i j e m : ℕ) (x y : Fraction) → 0 < x .den → 0 < y .den → Near i e x → Near j m y → AtLeastAbove i y x → e ≤ m
 less i j e m x y px py nx ny h =
     le-of-mul-le-mul-right {k = x .den * y .den}
     (omega (arith, mul-le-mul-right (y .den) (nx .above), mul-le-mul-right (x .den) (ny .below))) (mul-pos px py)

@@ -5,15 +5,16 @@ use mathlib.Core.List.{List, [], _∷_, _++_, map}
 use native.Mathlib.Nat.{zero-div, mul-zero, add-assoc, add-zero, zero-add}
 use native.Mathlib.Omega.{arith}
 use lib.Dec.{eqb}
-use lib.IntN.{pos, subℕ, _+ℤ_}
+use lib.IntN.{ℤ, pos, subℕ, _+ℤ_}
 use lib.ListN.{length, getD, drop, replicate, length-drop, List·getD-eq-default}
 use lib.Seq.{sets, getD-drop}
 use borrow.Author.Tests.{ne-eqb}
 use Rattle.laws.specs.Calls.{over}
 use Rattle.laws.proofs.Lists.{sets-over}
 use Rattle.laws.proofs.Tests.{chosen}
-use Rattle.sound.specs.Mix.{signed, lowered, floor, pseudoAbsolute, sampleAt, samplesAt, weighted, weights, divisor, mixed, instantBytes, instantValue}
+use Rattle.sound.specs.Mix.{signed, signedAt, instantSamples, weights, divisor, weighted, floor, mixed, pseudoAbsolute, instantBytes, instantValue}
 use Rattle.sound.proofs.Whole.{sub-add, sub-mul}
+use Rattle.sound.proofs.Rounding.{lowered}
 
 -- the sum of the products of two lists
 abbrev pub dot : List ℕ → List ℕ → ℕ
@@ -24,30 +25,30 @@ dot (w ∷ ws) (x ∷ xs) = w * x + dot ws xs
 abbrev pub biases : List ℕ → List ℕ
 biases xs = map (λ (x : ℕ). 32768) xs
 
-pub weighted-raised : (ws xs : List ℕ) → weighted ws (map lowered xs) ≡ subℕ (dot ws xs) (dot ws (biases xs))
-unfolding weighted lowered
+weighted-raised : (ws xs : List ℕ) → weighted ws (map lowered xs) ≡ subℕ (dot ws xs) (dot ws (biases xs))
+unfolding weighted
 weighted-raised [] xs = refl
 weighted-raised (w ∷ ws) [] = refl
 weighted-raised (w ∷ ws) (x ∷ xs) =
     ap₂ _+ℤ_ (sub-mul w x 32768) (weighted-raised ws xs) ∙ sub-add (w * x) (w * 32768) (dot ws xs) (dot ws (biases xs))
 
--- the mix of a listed type, from its raised samples, their weighted sum and the bias of that sum
-pub mix-raised : (mix : ℕ) (block : List ℕ) (at : ℕ) (xs : List ℕ) (s b : ℕ)
-    → map lowered xs ≡ samplesAt block at (length (weights mix)) → s ≡ dot (weights mix) xs → b ≡ dot (weights mix) (biases xs)
-    → floor (subℕ s b) (divisor mix) ≡ mixed mix block at
+-- a(i) of a listed type, from its raised samples xs, their weighted sum s and the bias b of that sum
+pub value-raised : (mix : ℕ) (zs : List ℤ) (xs : List ℕ) (s b m a : ℕ) → map lowered xs ≡ zs → s ≡ dot (weights mix) xs → b ≡ dot (weights mix) (biases xs)
+    → signed m ≡ floor (subℕ s b) (divisor mix) → a ≡ pseudoAbsolute (signed m) → a ≡ pseudoAbsolute (mixed mix zs)
 unfolding mixed
-mix-raised mix block at xs s b e p q = rw (← e, weighted-raised, p, q)
+value-raised mix zs xs s b m a e p q f g = g ∙ ap pseudoAbsolute (f ∙ rw (← e, weighted-raised, p, q))
 
--- the five samples of an instant, each at its own place
-pub five-samples : (block : List ℕ) (at : ℕ) → samplesAt block at 5
-    ≡ sampleAt block at ∷ sampleAt block (at + 2) ∷ sampleAt block (at + 4) ∷ sampleAt block (at + 6) ∷ sampleAt block (at + 8) ∷ []
-unfolding samplesAt
+-- the samples of an instant, each at its own place
+pub five-samples : (block : List ℕ) (at : ℕ) → instantSamples block at 5
+    ≡ signedAt block at ∷ signedAt block (at + 2) ∷ signedAt block (at + 4) ∷ signedAt block (at + 6) ∷ signedAt block (at + 8) ∷ []
+unfolding instantSamples
 five-samples block at = simp add-assoc
 
 -- a(i), by the mix type
-pub value-of : (mix k : ℕ) (block : List ℕ) (at m r : ℕ) → mix ≡ k → r ≡ pseudoAbsolute (signed m) → signed m ≡ mixed k block at → r ≡ instantValue mix block at
+pub value-of : (mix k : ℕ) (block : List ℕ) (at : ℕ) (zs : List ℤ) (a : ℕ) → mix ≡ k → a ≡ pseudoAbsolute (mixed k zs)
+    → zs ≡ instantSamples block at (length (weights k)) → a ≡ instantValue mix block at
 unfolding instantValue
-value-of mix k block at m r e f g = f ∙ ap pseudoAbsolute (g ∙ ap (λ (j : ℕ). mixed j block at) (sym e))
+value-of mix k block at zs a e f g = f ∙ (ap (λ (ys : List ℤ). pseudoAbsolute (mixed k ys)) g ∙ ap (λ (j : ℕ). instantValue j block at) (sym e))
 
 pub bytes-of : (mix k : ℕ) → mix ≡ k → instantBytes mix ≡ instantBytes k
 bytes-of mix k e = ap instantBytes e
@@ -64,8 +65,8 @@ unfolding instantValue mixed weights divisor weighted floor pseudoAbsolute
 not-listed mix block at x y z = simp (ne-eqb mix 1 x, ne-eqb mix 2 y, ne-eqb mix 5 z)
 
 -- past the block all is silent
-past-samples : (ws block : List ℕ) (at : ℕ) → length block ≤ at → weighted ws (samplesAt block at (length ws)) ≡ pos 0
-unfolding weighted samplesAt sampleAt signed
+past-samples : (ws block : List ℕ) (at : ℕ) → length block ≤ at → weighted ws (instantSamples block at (length ws)) ≡ pos 0
+unfolding weighted instantSamples signedAt signed
 past-samples [] block at h = refl
 past-samples (w ∷ ws) block at h =
     let g : length block ≤ at + 1 = omega arith in
@@ -76,8 +77,8 @@ unfolding instantValue mixed floor pseudoAbsolute
 past-value mix block at h = rw (past-samples (weights mix) block at h) (sym (zero-div (divisor mix)))
 
 -- the same bytes give the same samples, wherever they lie
-same-samples : (b c : List ℕ) (p q n : ℕ) → ((k : ℕ) → getD b (p + k) 0 ≡ getD c (q + k) 0) → samplesAt b p n ≡ samplesAt c q n
-unfolding samplesAt sampleAt
+same-samples : (b c : List ℕ) (p q n : ℕ) → ((k : ℕ) → getD b (p + k) 0 ≡ getD c (q + k) 0) → instantSamples b p n ≡ instantSamples c q n
+unfolding instantSamples signedAt
 same-samples b c p q zero e = refl
 same-samples b c p q (suc n) e =
     let e0 : getD b p 0 ≡ getD c q 0 = simp add-zero at (e 0) in

@@ -4,5 +4,4 @@ pub mod Rounding
 pub mod Instants
 pub mod Meaning
 pub mod Exact
-pub mod Figures
 pub mod Unique

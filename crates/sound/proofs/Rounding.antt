@@ -5,8 +5,12 @@ use native.Mathlib.Nat.{add-mul, add-mul-div-right, div-add-mod', div-eq-of-lt-l
 use native.Mathlib.Omega.{arith}
 use lib.IntN.{ℤ, pos, negsuc, subℕ}
 use borrow.Author.Tests.{lt-ltb, le-ltb}
-use Rattle.sound.specs.Mix.{signed, lowered, floor, pseudoAbsolute}
+use Rattle.sound.specs.Mix.{signed, floor, pseudoAbsolute}
 use Rattle.sound.proofs.Whole.{by-order, sub-pos, sub-neg, sub-eq}
+
+-- a number that is held 32,768 too high
+abbrev pub lowered : ℕ → ℤ
+lowered s = subℕ s 32768
 
 pub signed-low : (w : ℕ) → w < 32768 → signed w ≡ pos w
 unfolding signed
@@ -17,7 +21,7 @@ unfolding signed
 signed-high w n e h = simp (le-ltb w 32768 (omega arith)) (sub-neg w 65536 n (omega arith))
 
 pub raised-is : (w : ℕ) → w < 65536 → lowered ((w + 32768) % 65536) ≡ signed w
-unfolding lowered signed
+unfolding signed
 raised-is w b =
     by-order w 32768
     (λ h. simp (lt-ltb w 32768 h) (sub-pos ((w + 32768) % 65536) 32768 w (omega arith)))
@@ -50,7 +54,7 @@ module _ (s b d : ℕ) (p : 0 < d) (few : b ≤ 32768 * d) where
   quotient-small h = div-lt-iff-lt-mul p .1 (omega arith)
 
   pub quotient-is : lowered ((s + (32768 * d - b)) / d) ≡ floor (subℕ s b) d
-  unfolding lowered floor
+  unfolding floor
   quotient-is =
       by-order s b
       (λ h. sub-neg ((s + (32768 * d - b)) / d) 32768 ((b - s - 1) / d) (omega (arith, quotient-down h)) ∙ ap (λ (z : ℤ). floor z d) (sym (sub-neg s b (b - s - 1) (omega arith))))

@@ -22,10 +22,10 @@ exactEnvelope h = exact 1024 8 h
 abbrev pub exactMean : List ℕ → Fraction
 exactMean h = exact 8192 1 h
 
--- The stored value v is never below the exact x, nor more than k - 1 above it: x ≤ v and v + 1 ≤ x + k, times the denominator
-pub record Near (k v : ℕ) (x : Fraction) : Type 0 where
+-- v "is never below its exact value" x "nor more than" n "above it": x ≤ v and v ≤ x + n, times the denominator
+pub record Near (n v : ℕ) (x : Fraction) : Type 0 where
   pub below : x .num ≤ v * x .den
-  pub above : v * x .den + x .den ≤ x .num + k * x .den
+  pub above : v * x .den ≤ x .num + n * x .den
 
 -- x is more than n above y, or n or more: y + n < x and y + n ≤ x, times both denominators
 abbrev pub MoreAbove : ℕ → Fraction → Fraction → Type 0

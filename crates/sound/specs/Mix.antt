@@ -1,7 +1,7 @@
 -- The mix of one instant, over the whole numbers, and a(i), its pseudo-absolute value (01, Audio; 000, 5.3.1 and 5.3.2).
 use Prim.Native.Nat.{ℕ, zero, suc, _+_, _*_, _/_}
 use mathlib.Core.List.{List, [], _∷_}
-use mathlib.Core.Bool.{Bool, cond}
+use mathlib.Core.Bool.{cond}
 use lib.IntN.{ℤ, pos, negsuc, _+ℤ_, _-ℤ_, _*ℤ_}
 use lib.Dec.{ltb, eqb}
 use lib.ListN.{length, getD}
@@ -11,13 +11,13 @@ unfoldable pub signed : ℕ → ℤ
 signed w = cond (ltb w 32768) (pos w) (pos w -ℤ pos 65536)
 
 -- "Samples are signed 16-bit, low byte first": the one at a place of a block. Bytes beyond the block read as 0
-unfoldable pub sampleAt : List ℕ → ℕ → ℤ
-sampleAt block at = signed (getD block at 0 + 256 * getD block (at + 1) 0)
+unfoldable pub signedAt : List ℕ → ℕ → ℤ
+signedAt block at = signed (getD block at 0 + 256 * getD block (at + 1) 0)
 
--- "interleaved": n samples from a place on
-unfoldable pub samplesAt : List ℕ → ℕ → ℕ → List ℤ
-samplesAt block at zero = []
-samplesAt block at (suc n) = sampleAt block at ∷ samplesAt block (at + 2) n
+-- "interleaved": the n samples of the instant whose bytes start at a place of a block
+unfoldable pub instantSamples : List ℕ → ℕ → ℕ → List ℤ
+instantSamples block at zero = []
+instantSamples block at (suc n) = signedAt block at ∷ instantSamples block (at + 2) n
 
 -- "Mix type 1 is mono; type 2 is L, R; type 5 is L, R, C, Ls, Rs": the weight of each channel; no other type is listed
 unfoldable pub weights : ℕ → List ℕ
@@ -30,10 +30,6 @@ weights mix =
 unfoldable pub divisor : ℕ → ℕ
 divisor mix = cond (eqb mix 1) 1 (cond (eqb mix 2) 20000 (cond (eqb mix 5) 40000 1))
 
--- the bytes of one instant: 2, 4 or 10
-unfoldable pub instantBytes : ℕ → ℕ
-instantBytes mix = 2 * length (weights mix)
-
 -- each sample times its channel's weight, summed
 unfoldable pub weighted : List ℕ → List ℤ → ℤ
 weighted [] xs = pos 0
@@ -45,19 +41,19 @@ unfoldable pub floor : ℤ → ℕ → ℤ
 floor (pos n) d = pos (n / d)
 floor (negsuc n) d = negsuc (n / d)
 
--- the mix of the instant whose bytes start at a place of a block
-unfoldable pub mixed : ℕ → List ℕ → ℕ → ℤ
-mixed mix block at = floor (weighted (weights mix) (samplesAt block at (length (weights mix)))) (divisor mix)
+-- the mix of an instant's samples, in the order of their channels
+unfoldable pub mixed : ℕ → List ℤ → ℤ
+mixed mix samples = floor (weighted (weights mix) samples) (divisor mix)
 
 -- "A negative mix m then becomes -m-1": m = -(n + 1) gives n
 unfoldable pub pseudoAbsolute : ℤ → ℕ
 pseudoAbsolute (pos n) = n
 pseudoAbsolute (negsuc n) = n
 
+-- the bytes of one instant: 2, 4 or 10
+unfoldable pub instantBytes : ℕ → ℕ
+instantBytes mix = 2 * length (weights mix)
+
 -- a(i), of the instant whose bytes start at a place of a block
 unfoldable pub instantValue : ℕ → List ℕ → ℕ → ℕ
-instantValue mix block at = pseudoAbsolute (mixed mix block at)
-
--- a sample that is held 32,768 too high
-unfoldable pub lowered : ℕ → ℤ
-lowered s = pos s -ℤ pos 32768
+instantValue mix block at = pseudoAbsolute (mixed mix (instantSamples block at (length (weights mix))))

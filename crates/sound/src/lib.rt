@@ -1,9 +1,10 @@
 // One instant of sound: its mix, its pseudo-absolute value, and the two filters (01, Audio; 000, 5.3.1 to 5.3.4).
 ghost use mathlib.Core.Path.{_≡_};
+ghost use mathlib.Core.List.{[], _∷_};
 ghost use Prim.Native.Nat.{_+_, _*_, _≤_, _<_};
 ghost use lib.ListN.{length};
 ghost use lib.IntN.{subℕ};
-ghost use Rattle.sound.specs.Mix.{signed, lowered, floor, pseudoAbsolute, sampleAt, mixed, instantBytes, instantValue};
+ghost use Rattle.sound.specs.Mix.{signed, signedAt, floor, mixed, pseudoAbsolute, instantBytes, instantValue};
 ghost use Rattle.sound.specs.Filter.{envelopeNext, meanNext};
 
 // The bytes of one instant: two for each channel; none for a mix type that is not listed.
@@ -22,61 +23,21 @@ pub fn instant_bytes(mix: u8) -> usize
     0
 }
 
-// A sample from its two bytes, 32,768 too high, so that every sum of samples is unsigned.
-fn raised(lo: u8, hi: u8) -> u16
-    ensures { λ r. ⌜ lowered r ≡ signed (lo + 256 * hi) ⌝ }
+// A sample, given by its 16 bits, 32,768 too high, so that every sum of samples is unsigned.
+fn raised(s: u16) -> u32
+    ensures { λ r. ⌜ (r < 65536) × (subℕ r 32768 ≡ signed s) ⌝ }
 {
-    (((lo as u32) + 256 * (hi as u32) + 32768) % 65536) as u16
-}
-
-// The raised sample at a place of a block.
-fn sample(block: &[u8], at: usize) -> u32
-    requires { ⌜ at + 2 ≤ length (now block) ⌝ }
-    ensures { λ r. ⌜ (r < 65536) × (lowered r ≡ sampleAt (now (block .entry)) at) ⌝ }
-{
-    raised(block[at], block[at + 1]) as u32
+    ((s as u32) + 32768) % 65536
 }
 
 // The sum, which is bias too high, divided by d, as the 16 bits of a signed sample. This alone knows the rounding: down, towards minus infinity.
-// The quotient is worked out 32,768 too high, and so is never negative.
+// The bias of a mix is 32,768 times the sum of its weights. The quotient is worked out 32,768 too high, and so is never negative.
 fn rounded(sum: u32, bias: u32, d: u32) -> u16
     requires { ⌜ (0 < d) × (d ≤ 40000) × (bias ≤ 32768 * d) × (sum < bias + 32768 * d) ⌝ }
     ensures { λ r. ⌜ signed r ≡ floor (subℕ sum bias) d ⌝ }
 {
     let q = (sum + (32768 * d - bias)) / d;
     ((q + 32768) % 65536) as u16
-}
-
-fn mono(block: &[u8], at: usize) -> u16
-    requires { ⌜ at + 2 ≤ length (now block) ⌝ }
-    ensures { λ r. ⌜ signed r ≡ mixed 1 (now (block .entry)) at ⌝ }
-{
-    rounded(sample(block, at), 32768, 1)
-}
-
-fn stereo(block: &[u8], at: usize) -> u16
-    requires { ⌜ at + 4 ≤ length (now block) ⌝ }
-    ensures { λ r. ⌜ signed r ≡ mixed 2 (now (block .entry)) at ⌝ }
-{
-    let l = sample(block, at);
-    let r = sample(block, at + 2);
-    rounded(7071 * l + 7071 * r, 463405056, 20000)
-}
-
-fn five(block: &[u8], at: usize) -> u16
-    requires { ⌜ at + 10 ≤ length (now block) ⌝ }
-    ensures { λ r. ⌜ signed r ≡ mixed 5 (now (block .entry)) at ⌝ }
-{
-    let l = sample(block, at);
-    let r = sample(block, at + 2);
-    let c = sample(block, at + 4);
-    let ls = sample(block, at + 6);
-    let rs = sample(block, at + 8);
-    rounded(
-        7071 * l + 7071 * r + 10000 * c + 5000 * ls + 5000 * rs,
-        1118765056,
-        40000,
-    )
 }
 
 // A negative mix m, here its 16 bits, becomes -m-1.
@@ -90,19 +51,63 @@ fn pseudo_absolute(m: u16) -> u16
     (negated - 1) as u16
 }
 
+// a(i) of a mono instant, from its sample's 16 bits.
+pub fn mono_value(m: u16) -> u16
+    ensures { λ a. ⌜ a ≡ pseudoAbsolute (mixed 1 (signed m ∷ [])) ⌝ }
+{
+    pseudo_absolute(rounded(raised(m), 32768, 1))
+}
+
+// a(i) of a stereo instant, from its samples' 16 bits.
+pub fn stereo_value(l: u16, r: u16) -> u16
+    ensures { λ a. ⌜ a ≡ pseudoAbsolute (mixed 2 (signed l ∷ signed r ∷ [])) ⌝ }
+{
+    let sum = 7071 * raised(l) + 7071 * raised(r);
+    pseudo_absolute(rounded(sum, 463405056, 20000))
+}
+
+// a(i) of a 5.1 instant, from its samples' 16 bits.
+pub fn five_value(l: u16, r: u16, c: u16, ls: u16, rs: u16) -> u16
+    ensures { λ a. ⌜ a ≡ pseudoAbsolute (mixed 5 (signed l ∷ signed r ∷ signed c ∷ signed ls ∷ signed rs ∷ [])) ⌝ }
+{
+    let front = 7071 * raised(l) + 7071 * raised(r) + 10000 * raised(c);
+    let sum = front + 5000 * raised(ls) + 5000 * raised(rs);
+    pseudo_absolute(rounded(sum, 1118765056, 40000))
+}
+
+// 16 bits, low byte first.
+fn sixteen(lo: u8, hi: u8) -> u16
+    ensures { λ r. ⌜ r ≡ lo + 256 * hi ⌝ }
+{
+    ((lo as u32) + 256 * (hi as u32)) as u16
+}
+
+// The 16 bits of the sample at a place of a block.
+fn sample(block: &[u8], at: usize) -> u16
+    requires { ⌜ at + 2 ≤ length (now block) ⌝ }
+    ensures { λ r. ⌜ signed r ≡ signedAt (now (block .entry)) at ⌝ }
+{
+    sixteen(block[at], block[at + 1])
+}
+
 // a(i), of an instant that lies whole in a block.
 fn whole_value(mix: u8, block: &[u8], at: usize) -> u16
     requires { ⌜ at + instantBytes mix ≤ length (now block) ⌝ }
     ensures { λ r. ⌜ r ≡ instantValue mix (now (block .entry)) at ⌝ }
 {
     if mix == 1 {
-        return pseudo_absolute(mono(block, at));
+        return mono_value(sample(block, at));
     }
     if mix == 2 {
-        return pseudo_absolute(stereo(block, at));
+        return stereo_value(sample(block, at), sample(block, at + 2));
     }
     if mix == 5 {
-        return pseudo_absolute(five(block, at));
+        let l = sample(block, at);
+        let r = sample(block, at + 2);
+        let c = sample(block, at + 4);
+        let ls = sample(block, at + 6);
+        let rs = sample(block, at + 8);
+        return five_value(l, r, c, ls, rs);
     }
     0
 }

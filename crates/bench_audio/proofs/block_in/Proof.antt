@@ -4,7 +4,7 @@ use mathlib.Core.Path.{_≡_, ap, ap₂, _∙_}
 use Rattle.fingerprint.specs.declared.Fingerprint.{Fingerprint}
 use Rattle.fingerprint.specs.declared.Taken.{Taken}
 use Rattle.fingerprint.specs.State.{heardOf, takeOf}
-use Rattle.bench_audio.specs.Turns.{bytesIn, dueOf, nextTurn}
+use Rattle.bench_audio.specs.Turns.{bytesIn, fourOrFive, nextTurn}
 use borrow.Author.Needs.{needs}
 use Rattle.bench_audio.proofs.block_in.Statement.{statement}
 use Rattle.bench_audio.proofs.block_in.Tie as tie
@@ -12,8 +12,8 @@ use Rattle.bench_audio.proofs.block_in.Tie as tie
 heard-requires : tie.Need-heard-requires
 heard-requires c κs = search needs
 
-due-requires : tie.Need-due-requires
-due-requires c κs = search needs
+four-or-five-requires : tie.Need-four-or-five-requires
+four-or-five-requires c κs = search needs
 
 take-requires : tie.Need-take-requires
 take-requires c κs = search needs
@@ -26,10 +26,10 @@ unfolding nextTurn
 returns c =
     let a = c .before .before .before .before .before .before .before .before .args in
     let g = c .before .before .before .before .before .heard in
-    let n = c .before .before .before .before .due in
+    let n = c .before .before .before .before .four-or-five in
     let k = c .before .before .before .take in
-    let t : k .result ≡ takeOf (heardOf (a .d) (a .t .fingerprint) (a .block .now)) (dueOf (heardOf (a .d) (a .t .fingerprint) (a .block .now))) =
-    k .ensures ∙ (ap (takeOf (g .result)) (n .ensures) ∙ ap (λ (f : Fingerprint). takeOf f (dueOf f)) (g .ensures)) in (
+    let t : k .result ≡ takeOf (heardOf (a .d) (a .t .fingerprint) (a .block .now)) (fourOrFive (heardOf (a .d) (a .t .fingerprint) (a .block .now))) =
+    k .ensures ∙ (ap (takeOf (g .result)) (n .ensures) ∙ ap (λ (f : Fingerprint). takeOf f (fourOrFive f)) (g .ensures)) in (
       ap₂ (λ (f : Fingerprint) (s : ℕ). record { fingerprint = f; sum = s }) (ap (λ (x : Taken). x .fingerprint) t)
           (c .bytes-in .ensures .0 ∙ ap (λ (x : Taken). bytesIn (a .t .sum) (x .bytes)) t),
       c .bytes-in .ensures .1,
@@ -37,4 +37,4 @@ returns c =
 
 pub block-in-spec : {M : Type 1} → statement M
 block-in-spec =
-    tie.close (tie.spec heard-requires due-requires take-requires bytes-in-requires returns)
+    tie.close (tie.spec heard-requires four-or-five-requires take-requires bytes-in-requires returns)

@@ -9,7 +9,7 @@ use borrow.Author.Needs.{needs}
 use lib.ListN.{length}
 use Rattle.sound.specs.Mix.{instantBytes, instantValue}
 use Rattle.fingerprint.specs.State.{after, valuesAt, valuesOf, heardOf}
-use Rattle.fingerprint.specs.Parts.{joinedOf}
+use Rattle.fingerprint.specs.Parts.{withFiltersOf}
 use Rattle.fingerprint.proofs.Counts.{half-instants, instants-fit}
 use Rattle.fingerprint.proofs.Steps.{kept-on, run-on}
 use Rattle.fingerprint.proofs.heard.Statement.{statement}
@@ -17,7 +17,7 @@ use Rattle.fingerprint.proofs.heard.Tie as tie
 
 abbrev Inv-loop : tie.InvT-loop
 Inv-loop d block mix size n pause rest₀ wait₀ v₀ at₀ i₀ rest wait v at i =
-    (i ≤ n) × (at ≡ i * size) × (joinedOf rest v wait ≡ after d rest₀ (valuesAt mix block 0 i))
+    (i ≤ n) × (at ≡ i * size) × (withFiltersOf rest v wait ≡ after d rest₀ (valuesAt mix block 0 i))
 
 abbrev μ-loop : tie.MeasureT-loop
 μ-loop d block mix size n pause rest₀ wait₀ v₀ at₀ i₀ rest wait v at i = n - i
@@ -48,14 +48,14 @@ less-one-requires : tie.Need-less-one-requires Inv-loop μ-loop
 less-one-requires c κs = search needs
 
 loop-holds : tie.Need-loop-holds Inv-loop μ-loop
-unfolding joinedOf after valuesAt
+unfolding withFiltersOf after valuesAt
 loop-holds c = (omega arith, omega arith, refl)
 
 instant-value-requires : tie.Need-instant-value-requires Inv-loop μ-loop
 instant-value-requires c κs = search needs
 
-filtered-requires : tie.Need-filtered-requires Inv-loop μ-loop
-filtered-requires c κs = search needs
+next-filters-requires : tie.Need-next-filters-requires Inv-loop μ-loop
+next-filters-requires c κs = search needs
 
 pushed-requires : tie.Need-pushed-requires Inv-loop μ-loop
 pushed-requires c κs = search needs
@@ -76,7 +76,7 @@ loop-again c =
     let size = c .before .before .before .before .before .before .before .before .before .instant-bytes in
     let b = c .before .before .before .before .before .before .before .before .before .before .before .args in
     let a = c .before .before .before .instant-value in
-    let v = c .before .before .filtered in
+    let v = c .before .before .next-filters in
     let h = valuesAt (b .f .mix) (b .block .now) 0 (l .i) in
     let e : a .result ≡ instantValue (b .f .mix) (b .block .now) (0 + l .i * instantBytes (b .f .mix)) =
     a .ensures ∙ ap (instantValue (b .f .mix) (b .block .now)) (l .inv .1 ∙ (ap (_*_ (l .i)) (size .ensures) ∙ omega arith)) in (
@@ -135,8 +135,8 @@ loop-again-2 c =
           (l .inv .2) (l .inv .1 ∙ ap (_*_ (l .i)) (size .ensures)) (omega arith) (c .through .ensures),
     )
 
-joined-requires : tie.Need-joined-requires Inv-loop μ-loop
-joined-requires c κs = search needs
+with-filters-requires : tie.Need-with-filters-requires Inv-loop μ-loop
+with-filters-requires c κs = search needs
 
 returns : tie.Need-returns Inv-loop μ-loop
 unfolding heardOf valuesOf
@@ -145,7 +145,7 @@ returns c =
     let b = c .before .before .before .before .before .before .before .args in
     let n = c .before .before .before .before .instants-in in
     let all : l .i ≡ n .result = omega arith in
-    c .joined .ensures ∙ (l .inv .2 ∙ ap (λ (i : ℕ). after (b .d) (b .f) (valuesAt (b .f .mix) (b .block .now) 0 i)) (all ∙ n .ensures))
+    c .with-filters .ensures ∙ (l .inv .2 ∙ ap (λ (i : ℕ). after (b .d) (b .f) (valuesAt (b .f .mix) (b .block .now) 0 i)) (all ∙ n .ensures))
 
 pub heard-spec : {M : Type 1} → statement M
 heard-spec =
@@ -158,7 +158,7 @@ heard-spec =
     less-one-requires
     loop-holds
     instant-value-requires
-    filtered-requires
+    next-filters-requires
     pushed-requires
     add-at
     add-i
@@ -176,5 +176,5 @@ heard-spec =
     add-i-2
     loop-less-2
     loop-again-2
-    joined-requires
+    with-filters-requires
     returns)

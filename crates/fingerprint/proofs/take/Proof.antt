@@ -2,7 +2,7 @@
 use mathlib.Core.Path.{sym}
 use native.Mathlib.Omega.{arith}
 use Rattle.fingerprint.specs.State.{holding, without}
-use Rattle.fingerprint.proofs.Taking.{take-many, take-short, takes-held, take-is}
+use Rattle.fingerprint.proofs.Taking.{take-many, take-short, can-take-held, take-is}
 use borrow.Author.Needs.{needs}
 use Rattle.fingerprint.proofs.take.Statement.{statement}
 use Rattle.fingerprint.proofs.take.Tie as tie
@@ -32,7 +32,7 @@ returns-3 : tie.Need-returns-3
 unfolding without holding
 returns-3 c =
     let a = c .before .before .before .before .before .args in
-    rw (c .shift .ensures, c .before .first-bytes .ensures) (sym (take-is (a .f) (a .n) (takes-held (a .f) (a .n) (omega arith) (omega arith))))
+    rw (c .shift .ensures, c .before .first-bytes .ensures) (sym (take-is (a .f) (a .n) (can-take-held (a .f) (a .n) (omega arith) (omega arith))))
 
 pub take-spec : {M : Type 1} → statement M
 take-spec =

@@ -28,8 +28,8 @@ loop-holds c = (omega arith, omega arith, refl)
 instant-value-requires : tie.Need-instant-value-requires Inv-loop μ-loop
 instant-value-requires c κs = search needs
 
-filtered-requires : tie.Need-filtered-requires Inv-loop μ-loop
-filtered-requires c κs = search needs
+next-filters-requires : tie.Need-next-filters-requires Inv-loop μ-loop
+next-filters-requires c κs = search needs
 
 add-p : tie.Need-add-p Inv-loop μ-loop
 add-p c =
@@ -52,7 +52,7 @@ loop-again c =
     let size = c .before .before .before .before .instant-bytes in
     let a = c .before .before .before .before .before .before .args in
     let e = c .before .instant-value .ensures ∙ ap (instantValue (a .mix) (a .block .now)) (l .inv .1 ∙ ap (λ (s : ℕ). a .at + l .i * s) (size .ensures)) in
-    (omega arith, omega arith, rw add-one (c .filtered .ensures ∙ ap₂ nextFilters (l .inv .2) e))
+    (omega arith, omega arith, rw add-one (c .next-filters .ensures ∙ ap₂ nextFilters (l .inv .2) e))
 
 returns : tie.Need-returns Inv-loop μ-loop
 returns c =
@@ -70,7 +70,7 @@ through-as-spec =
     instant-bytes-requires
     loop-holds
     instant-value-requires
-    filtered-requires
+    next-filters-requires
     add-p
     add-i
     loop-less

@@ -1,40 +1,94 @@
 -- `sound::whole_value` meets its contract.
+use mathlib.Core.Path.{_≡_, ap, ap₂}
+use mathlib.Core.List.{[], _∷_}
 use native.Mathlib.Omega.{arith}
-use Rattle.sound.specs.Mix.{weights, instantBytes}
-use Rattle.sound.proofs.Instants.{value-of, bytes-of, not-listed}
+use lib.IntN.{ℤ}
+use Rattle.sound.specs.Mix.{signed, instantSamples, weights, instantBytes}
+use Rattle.sound.proofs.Instants.{five-samples, value-of, bytes-of, not-listed}
 use borrow.Author.Needs.{needs}
 use Rattle.sound.proofs.whole_value.Statement.{statement}
 use Rattle.sound.proofs.whole_value.Tie as tie
 
-mono-requires : tie.Need-mono-requires
+sample-requires : tie.Need-sample-requires
 unfolding instantBytes weights
-mono-requires c κs = omega (arith, bytes-of _ 1 (c .if1 .taken))
+sample-requires c κs = omega (arith, bytes-of _ 1 (c .if1 .taken))
 
-pseudo-absolute-requires : tie.Need-pseudo-absolute-requires
-pseudo-absolute-requires c κs = search needs
+mono-value-requires : tie.Need-mono-value-requires
+mono-value-requires c κs = search needs
 
 returns : tie.Need-returns
-returns c = value-of _ 1 _ _ _ _ (c .before .before .if1 .taken) (c .pseudo-absolute .ensures) (c .before .mono .ensures)
+unfolding weights instantSamples
+returns c =
+    value-of _ 1 _ _ _ _ (c .before .before .if1 .taken) (c .mono-value .ensures) (ap (λ (z : ℤ). z ∷ []) (c .before .sample .ensures))
 
-stereo-requires : tie.Need-stereo-requires
+sample-requires-2 : tie.Need-sample-requires-2
 unfolding instantBytes weights
-stereo-requires c κs = omega (arith, bytes-of _ 2 (c .if2 .taken))
+sample-requires-2 c κs = omega (arith, bytes-of _ 2 (c .if2 .taken))
 
-pseudo-absolute-requires-2 : tie.Need-pseudo-absolute-requires-2
-pseudo-absolute-requires-2 c κs = search needs
+add-sample : tie.Need-add-sample
+add-sample c = search needs
+
+sample-requires-3 : tie.Need-sample-requires-3
+unfolding instantBytes weights
+sample-requires-3 c κs = omega (arith, bytes-of _ 2 (c .before .if2 .taken))
+
+stereo-value-requires : tie.Need-stereo-value-requires
+stereo-value-requires c κs = search needs
 
 returns-2 : tie.Need-returns-2
-returns-2 c = value-of _ 2 _ _ _ _ (c .before .before .if2 .taken) (c .pseudo-absolute2 .ensures) (c .before .stereo .ensures)
+unfolding weights instantSamples
+returns-2 c =
+    value-of _ 2 _ _ _ _ (c .before .before .before .if2 .taken) (c .stereo-value .ensures)
+    (ap₂ (λ (y z : ℤ). y ∷ z ∷ []) (c .before .before .sample2 .ensures) (c .before .sample3 .ensures))
 
-five-requires : tie.Need-five-requires
+sample-requires-4 : tie.Need-sample-requires-4
 unfolding instantBytes weights
-five-requires c κs = omega (arith, bytes-of _ 5 (c .if3 .taken))
+sample-requires-4 c κs = omega (arith, bytes-of _ 5 (c .if3 .taken))
 
-pseudo-absolute-requires-3 : tie.Need-pseudo-absolute-requires-3
-pseudo-absolute-requires-3 c κs = search needs
+add-sample-2 : tie.Need-add-sample-2
+add-sample-2 c = search needs
+
+sample-requires-5 : tie.Need-sample-requires-5
+unfolding instantBytes weights
+sample-requires-5 c κs = omega (arith, bytes-of _ 5 (c .before .if3 .taken))
+
+add-sample-3 : tie.Need-add-sample-3
+add-sample-3 c = search needs
+
+sample-requires-6 : tie.Need-sample-requires-6
+unfolding instantBytes weights
+sample-requires-6 c κs = omega (arith, bytes-of _ 5 (c .before .before .if3 .taken))
+
+add-sample-4 : tie.Need-add-sample-4
+add-sample-4 c = search needs
+
+sample-requires-7 : tie.Need-sample-requires-7
+unfolding instantBytes weights
+sample-requires-7 c κs = omega (arith, bytes-of _ 5 (c .before .before .before .if3 .taken))
+
+add-sample-5 : tie.Need-add-sample-5
+add-sample-5 c = search needs
+
+sample-requires-8 : tie.Need-sample-requires-8
+unfolding instantBytes weights
+sample-requires-8 c κs = omega (arith, bytes-of _ 5 (c .before .before .before .before .if3 .taken))
+
+five-value-requires : tie.Need-five-value-requires
+five-value-requires c κs = search needs
 
 returns-3 : tie.Need-returns-3
-returns-3 c = value-of _ 5 _ _ _ _ (c .before .before .if3 .taken) (c .pseudo-absolute3 .ensures) (c .before .five .ensures)
+unfolding weights
+returns-3 c =
+    let a = c .before .before .before .before .before .before .before .before .before .before .args in
+    let l = c .before .before .before .before .before .sample4 in
+    let r = c .before .before .before .before .sample5 in
+    let m = c .before .before .before .sample6 in
+    let ls = c .before .before .sample7 in
+    let rs = c .before .sample8 in
+    let zs = signed (l .result) ∷ signed (r .result) ∷ signed (m .result) ∷ signed (ls .result) ∷ signed (rs .result) ∷ [] in
+    let e : zs ≡ instantSamples (a .block .now) (a .at) 5 =
+    cc (five-samples (a .block .now) (a .at), l .ensures, r .ensures, m .ensures, ls .ensures, rs .ensures) in
+    value-of (a .mix) 5 (a .block .now) (a .at) zs (c .five-value .result) (c .before .before .before .before .before .before .if3 .taken) (c .five-value .ensures) e
 
 returns-4 : tie.Need-returns-4
 returns-4 c = not-listed _ _ _ (c .before .before .if1 .left) (c .before .if2 .left) (c .if3 .left)
@@ -43,13 +97,23 @@ pub whole-value-spec : {M : Type 1} → statement M
 whole-value-spec =
     tie.close
     (tie.spec
-    mono-requires
-    pseudo-absolute-requires
+    sample-requires
+    mono-value-requires
     returns
-    stereo-requires
-    pseudo-absolute-requires-2
+    sample-requires-2
+    add-sample
+    sample-requires-3
+    stereo-value-requires
     returns-2
-    five-requires
-    pseudo-absolute-requires-3
+    sample-requires-4
+    add-sample-2
+    sample-requires-5
+    add-sample-3
+    sample-requires-6
+    add-sample-4
+    sample-requires-7
+    add-sample-5
+    sample-requires-8
+    five-value-requires
     returns-3
     returns-4)

@@ -1,8 +1,8 @@
--- `fingerprint::filtered` meets its contract.
+-- `fingerprint::next_filters` meets its contract.
 use Rattle.fingerprint.specs.Parts.{nextFilters}
 use borrow.Author.Needs.{needs}
-use Rattle.fingerprint.proofs.filtered.Statement.{statement}
-use Rattle.fingerprint.proofs.filtered.Tie as tie
+use Rattle.fingerprint.proofs.next_filters.Statement.{statement}
+use Rattle.fingerprint.proofs.next_filters.Tie as tie
 
 envelope-requires : tie.Need-envelope-requires
 envelope-requires c κs = search needs
@@ -18,5 +18,5 @@ returns-2 : tie.Need-returns-2
 unfolding nextFilters
 returns-2 c = simp (c .if1 .left)
 
-pub filtered-spec : {M : Type 1} → statement M
-filtered-spec = tie.close (tie.spec envelope-requires mean-requires returns returns-2)
+pub next-filters-spec : {M : Type 1} → statement M
+next-filters-spec = tie.close (tie.spec envelope-requires mean-requires returns returns-2)
