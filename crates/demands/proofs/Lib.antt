@@ -17,4 +17,8 @@ pub mod Refusals
 pub mod Story
 pub mod Shots
 pub mod Fade
+pub mod Spoken
+pub mod Invented
+pub mod Pictured
+pub mod Examples
 pub mod Against

@@ -1,27 +1,35 @@
--- The run of Story with a click and silence after it, and three frames packed, each container with audio: what any program that gives document 01's numbers
--- has to say in it.
-use Prim.Native.Nat.{ℕ, zero, suc, _+_, _*_, _<_}
-use mathlib.Core.Path.{_≡_, refl, ap, subst, _∙_}
-use mathlib.Core.Bool.{true}
+-- The runs of Story in which n mono fingerprints each hear a click and silence after it, and black frames are packed; and what any program that gives document
+-- 01's numbers has to say with one fingerprint at 24 Hz, in three containers with audio each.
+use Prim.Native.Nat.{ℕ, zero, suc, _+_, _*_, _/_, _%_, _≤_, _<_}
+use mathlib.Core.Path.{_≡_, refl, ap, ap₂, subst, _∙_}
+use mathlib.Core.Bool.{Bool, true, false}
 use mathlib.Core.List.{List, [], _∷_, _++_}
 use native.Mathlib.Omega.{arith}
 use native.Mathlib.Nat.{not-suc-le-zero}
-use lib.ListN.{length, getD, replicate, length-replicate}
+use lib.Dec.{eqb}
+use lib.ListN.{length, getD, replicate, length-replicate, getD-replicate}
+use borrow.Author.Tests.{eqb-true, eqb-false, eq-eqb, ne-eqb, le-leb}
 use Rattle.laws.proofs.Bytes.{bytes-nil}
-use Rattle.rates.specs.Rates.{intervalOf}
+use Rattle.rates.specs.Rates.{rateListed, intervalOf, pairsWith}
+use Rattle.rates.specs.Mixes.{mixListed}
 use Rattle.rates.specs.Cadence.{cadence, cadences}
 use Rattle.sampling.specs.Formats.{rowOf}
 use Rattle.sampling.specs.Samples.{pixels}
 use Rattle.picture.specs.History.{Waiting, no-frame, a-frame, isWaiting, fields, frameShows}
+use Rattle.fingerprint.specs.State.{valuesOf}
 use Rattle.fingerprint.specs.History.{bitIn}
-use Rattle.fingerprint.specs.Paper.{heldAnswer, Right}
+use Rattle.fingerprint.specs.Paper.{soundAnswer, heldAnswer, Right}
+use Rattle.container.specs.declared.Print.{Print}
 use Rattle.container.specs.Contents.{blankPrint}
-use Rattle.demands.specs.Calls.{Call, sound, pack, Event}
-use Rattle.demands.specs.Paper.{bytesDue, bitsPacked, everyHolds, audioAfter, sounded, paper, Program, transcript}
-use Rattle.demands.specs.Demands.{Every, readBack, BitsRight, Demand3}
+use Rattle.session.specs.Prints.{allListed}
+use Rattle.session.specs.Session.{setupNumber}
+use Rattle.demands.specs.Calls.{Setup, Call, sound, pack}
+use Rattle.demands.specs.Paper.{bytesDue, bitsPacked, everyHolds, audioAfter, sounded, accepted, Program, transcript}
+use Rattle.demands.specs.Demands.{Every, readBack, PrintRight, BitsRight, Demand3}
 use Rattle.demands.specs.Programs.{Speaks}
 use Rattle.demands.proofs.Fade.{click, silence, faded, click-values, all-values, kept-120, click-taken, silence-taken, far-above, far-below}
-use Rattle.demands.proofs.Story.{u, is-accepted, room, rows, At, start, number-is, sound-at, pack-number-0, pack-at, frame-at}
+use Rattle.demands.proofs.Spoken.{some-byte}
+use Rattle.demands.proofs.Story.{hd, Follows, room, rows, nothing, hears, T, At, start, sound-0, sound-at, packs, audio-is, pack-at, frame-at}
 
 -- a black line
 unfoldable pub dark : List ℕ
@@ -31,110 +39,184 @@ pub dark-length : length dark ≡ 2560
 unfolding dark
 dark-length = length-replicate {A = ℕ} 2560 0
 
--- the calls up to the first, second and third Pack
-unfoldable pub first : List Call
-first = rows dark 16 (sound 0 silence ∷ sound 0 click ∷ [])
+-- ---- n fingerprints, the samples of each, and the calls up to the first, second and third Pack
 
-unfoldable pub second : List Call
-second = rows dark 16 (pack [] room ∷ first)
+abbrev pub monos : ℕ → List ℕ
+monos n = replicate n 1
 
-unfoldable pub third : List Call
-third = rows dark 16 (pack [] room ∷ second)
+unfoldable pub opening : ℕ → List Call
+opening zero = []
+opening (suc n) = sound n silence ∷ sound n click ∷ opening n
 
--- there is audio for the first, second and third
-held : (q : ℕ) → q < 3 → heldAnswer 50 (faded 5998) (bitsPacked 3 q) (bytesDue 3 q) ≡ true
-unfolding heldAnswer bitsPacked bytesDue cadence cadences
-held zero l = rw kept-120 refl
-held (suc zero) l = rw kept-120 refl
-held (suc (suc zero)) l = rw kept-120 refl
-held (suc (suc (suc n))) l = absurd (let z : ⊥ = omega arith in z)
+unfoldable pub played : ℕ → ℕ → ℕ → List ℕ
+played zero = nothing
+played (suc n) = hears n silence (hears n click (played n))
 
-module _ (p : Program) (same : (cs : List Call) (c : Call) → p u (transcript p u cs) c .number ≡ paper u (transcript p u cs) c .number) where
-  abbrev T : List Call → List Event
-  T cs = transcript p u cs
+unfoldable pub first : ℕ → List Call
+first n = rows dark 16 (opening n)
 
-  abbrev line16 : List (List ℕ)
-  line16 = replicate 16 (pixels (rowOf 2) dark)
+unfoldable pub second : ℕ → List Call
+second n = rows dark 16 (pack [] room ∷ first n)
 
-  abbrev h : List ℕ
-  h = faded 5998
+unfoldable pub third : ℕ → List Call
+third n = rows dark 16 (pack [] room ∷ second n)
 
-  heard-as : {cs : List Call} {ls : List (List ℕ)} {w : Waiting} {x y : List ℕ} {m q : ℕ} → x ≡ y → At p same cs ls w x m q → At p same cs ls w y m q
-  heard-as {cs} {ls} {w} {x} {y} {m} {q} e o = subst (λ (z : List ℕ). At p same cs ls w z m q) e o
+played-not : (n mix k : ℕ) → n ≤ k → played n mix k ≡ []
+unfolding played hears
+played-not zero mix k l = refl
+played-not (suc n) mix k l = rw (ne-eqb n k (omega arith)) (played-not n mix k (omega arith))
 
-  opening : At p same (sound 0 silence ∷ sound 0 click ∷ []) [] no-frame h 0 0
-  unfolding bitsPacked
-  opening =
-      let a : At p same (sound 0 click ∷ []) [] no-frame (32767 ∷ 0 ∷ []) 0 0 =
-      heard-as (ap (λ (x : List ℕ). x ++ []) click-values) (sound-at p same (start p same) click click-taken) in
-      heard-as all-values (sound-at p same a silence silence-taken)
+hears-own : (j : ℕ) (b : List ℕ) (h : ℕ → ℕ → List ℕ) → hears j b h 1 j ≡ valuesOf 1 b ++ h 1 j
+unfolding hears
+hears-own j b h = rw (eq-eqb j j refl) refl
 
-  pub at-first : At p same first (line16 ++ []) (a-frame (frameShows 2 (fields (line16 ++ [])))) h 0 0
+clicked : (n : ℕ) → hears n click (played n) 1 n ≡ 32767 ∷ 0 ∷ []
+clicked n = hears-own n click (played n) ∙ ap₂ (λ (x y : List ℕ). x ++ y) click-values (played-not n 1 n (omega arith))
+
+played-last : (n : ℕ) → played (suc n) 1 n ≡ faded 5998
+unfolding played
+played-last n = hears-own n silence (hears n click (played n)) ∙ (ap (λ (x : List ℕ). valuesOf 1 silence ++ x) (clicked n) ∙ all-values)
+
+played-at : (n k : ℕ) → k < n → played n 1 k ≡ faded 5998
+unfolding played hears
+played-at zero k l = absurd (not-suc-le-zero l)
+played-at (suc n) k l = go (eqb n k) refl (played-at n k)
+  where
+    go : (t : Bool) → eqb n k ≡ t → (k < n → played n 1 k ≡ faded 5998) → played (suc n) 1 k ≡ faded 5998
+    go true e before = subst (λ (x : ℕ). played (suc n) 1 x ≡ faded 5998) (eqb-true n k e) (played-last n)
+    go false e before = let z = eqb-false n k e in rw e (before (omega arith))
+
+-- 120 bits are held of each
+all-held : (n taken due : ℕ) → taken + 8 * due ≤ 120 → everyHolds 50 taken due (played n) 0 (monos n) ≡ true
+unfolding everyHolds heldAnswer
+all-held n taken due fit = go n 0 (omega arith)
+  where
+    go : (m k : ℕ) → k + m ≤ n → everyHolds 50 taken due (played n) k (monos m) ≡ true
+    go zero k l = refl
+    go (suc m) k l = rw (played-at n k (omega arith), kept-120, le-leb (taken + 8 * due) 120 fit) (go m (suc k) (omega arith))
+
+-- D is 50, and the bits of q containers and of the next are among the 120
+pub record Spans (rate q : ℕ) : Type 0 where
+  pub fifty : intervalOf rate ≡ 50
+  pub fit : bitsPacked rate q + 8 * bytesDue rate q ≤ 120
+
+abbrev pub line16 : List (List ℕ)
+line16 = replicate 16 (pixels (rowOf 2) dark)
+
+module _ (n : ℕ) {rate : ℕ} {p : Program} (g : Follows rate (monos n) p) where
+  opening-at : intervalOf rate ≡ 50 → (j : ℕ) → j ≤ n → At g (opening j) [] no-frame (played j) 0 0
+  unfolding opening played bitsPacked
+  opening-at d zero l = start g
+  opening-at d (suc j) l = sound-at g (sound-at g (opening-at d j (omega arith)) j here click one) j here silence two
+    where
+      here : j < length (monos n)
+      here = rw (length-replicate {A = ℕ} n 1) l
+
+      one : soundAnswer (getD (monos n) j 0) (intervalOf rate) (played j (getD (monos n) j 0) j) (bitsPacked rate 0) click ≡ 0
+      one = rw (getD-replicate {A = ℕ} n j 1 0 l, d, played-not j 1 j (omega arith)) click-taken
+
+      two : soundAnswer (getD (monos n) j 0) (intervalOf rate) (hears j click (played j) (getD (monos n) j 0) j) (bitsPacked rate 0) silence ≡ 0
+      two = rw (getD-replicate {A = ℕ} n j 1 0 l, d, clicked j) silence-taken
+
+  pub at-first : Spans rate 0 → At g (first n) (line16 ++ []) (a-frame (frameShows 2 (fields (line16 ++ [])))) (played n) 0 0
   unfolding first
-  at-first = frame-at p same opening refl dark dark-length
+  at-first s = frame-at g (opening-at (s .fifty) n (omega arith)) refl dark dark-length
 
-  pub at-second : At p same second (line16 ++ (line16 ++ [])) (a-frame (frameShows 2 (fields (line16 ++ (line16 ++ []))))) h 1 1
+  module _ {cs : List Call} {ls : List (List ℕ)} {w : Waiting} {m q : ℕ} (o : At g cs ls w (played n) m q) (s : Spans rate q) where
+    pub holds : everyHolds (intervalOf rate) (bitsPacked rate q) (bytesDue rate q) (played n) 0 (monos n) ≡ true
+    holds = rw (s .fifty) (all-held n (bitsPacked rate q) (bytesDue rate q) (s .fit))
+
+    pub has-audio : audioAfter (hd rate (monos n)) (sounded (hd rate (monos n)) (T g cs)) (T g cs) ≡ true
+    has-audio = audio-is g o true holds
+
+    pub next-frame : isWaiting w ≡ true → length ls % 16 ≡ 0
+        → At g (rows dark 16 (pack [] room ∷ cs)) (line16 ++ ls) (a-frame (frameShows 2 (fields (line16 ++ ls)))) (played n) (m + 1) (suc q)
+    next-frame e l = frame-at g (pack-at g o e true holds) l dark dark-length
+
+  pub at-second : Spans rate 0 → At g (second n) (line16 ++ (line16 ++ [])) (a-frame (frameShows 2 (fields (line16 ++ (line16 ++ []))))) (played n) 1 1
   unfolding second isWaiting
-  at-second = frame-at p same (pack-at p same at-first refl true (held 0 (omega arith))) refl dark dark-length
+  at-second s = next-frame (at-first s) s refl refl
 
-  pub at-third :
-      At p same third (line16 ++ (line16 ++ (line16 ++ []))) (a-frame (frameShows 2 (fields (line16 ++ (line16 ++ (line16 ++ [])))))) h 2 2
+-- ---- 24 Hz: one fingerprint, and audio in the first, second and third container
+
+abbrev pub u : Setup
+u = hd 3 (monos 1)
+
+pub is-accepted : accepted u ≡ true
+unfolding accepted setupNumber pairsWith rateListed allListed mixListed
+is-accepted = refl
+
+pub spans : (q : ℕ) → q < 3 → Spans 3 q
+unfolding intervalOf bitsPacked bytesDue cadence cadences
+spans zero l = record { fifty = refl; fit = omega arith }
+spans (suc zero) l = record { fifty = refl; fit = omega arith }
+spans (suc (suc zero)) l = record { fifty = refl; fit = omega arith }
+spans (suc (suc (suc n))) l = absurd (let z : ⊥ = omega arith in z)
+
+module _ {p : Program} (g : Follows 3 (monos 1) p) where
+  pub first-block : p u (T g []) (sound 0 click) .number ≡ 0
+  unfolding intervalOf bitsPacked
+  first-block = sound-0 g (start g) 0 (omega arith) click click-taken
+
+  pub at-1 : At g (first 1) (line16 ++ []) (a-frame (frameShows 2 (fields (line16 ++ [])))) (played 1) 0 0
+  at-1 = at-first 1 g (spans 0 (omega arith))
+
+  pub at-2 : At g (second 1) (line16 ++ (line16 ++ [])) (a-frame (frameShows 2 (fields (line16 ++ (line16 ++ []))))) (played 1) 1 1
+  at-2 = at-second 1 g (spans 0 (omega arith))
+
+  pub at-3 : At g (third 1) (line16 ++ (line16 ++ (line16 ++ []))) (a-frame (frameShows 2 (fields (line16 ++ (line16 ++ (line16 ++ [])))))) (played 1) 2 2
   unfolding third isWaiting
-  at-third = frame-at p same (pack-at p same at-second refl true (held 1 (omega arith))) refl dark dark-length
+  at-3 = next-frame 1 g at-2 (spans 1 (omega arith)) refl refl
 
-  module _ {cs : List Call} {ls : List (List ℕ)} {w : Waiting} {m q : ℕ} (o : At p same cs ls w h m q) (ready : isWaiting w ≡ true) where
-    packs : p u (T cs) (pack [] room) .number ≡ 0
-    packs = number-is p same cs (pack [] room) ∙ pack-number-0 p same o ready
+  pub packs-1 : p u (T g (first 1)) (pack [] room) .number ≡ 0
+  unfolding isWaiting
+  packs-1 = packs g at-1 refl
 
-    has-audio : q < 3 → audioAfter u (sounded u (T cs)) (T cs) ≡ true
-    unfolding audioAfter everyHolds intervalOf
-    has-audio l = rw (o .spoken, o .heard, held q l) refl
+  pub packs-2 : p u (T g (second 1)) (pack [] room) .number ≡ 0
+  unfolding isWaiting
+  packs-2 = packs g at-2 refl
 
-    -- demand 3 lets no other fingerprint speak: none was heard
-    own : Demand3 p → (xs : List ℕ) → Speaks xs (readBack (p u (T cs) (pack [] room)) .contents)
-        → getD (readBack (p u (T cs) (pack [] room)) .contents .prints) 0 blankPrint .id ≡ 0
+  pub packs-3 : p u (T g (third 1)) (pack [] room) .number ≡ 0
+  unfolding isWaiting
+  packs-3 = packs g at-3 refl
+
+  pub audio-1 : audioAfter u (sounded u (T g (first 1))) (T g (first 1)) ≡ true
+  audio-1 = has-audio 1 g at-1 (spans 0 (omega arith))
+
+  pub audio-3 : audioAfter u (sounded u (T g (third 1))) (T g (third 1)) ≡ true
+  audio-3 = has-audio 1 g at-3 (spans 2 (omega arith))
+
+  -- what demand 3 says of a fingerprint whose bytes are xs
+  module _ {cs : List Call} {ls : List (List ℕ)} {w : Waiting} {m q : ℕ} (o : At g cs ls w (played 1) m q) (ready : isWaiting w ≡ true) (d : Demand3 p)
+      (xs : ℕ → ℕ) (s : Speaks xs (readBack (p u (T g cs) (pack [] room)) .contents)) where
+    abbrev print : Print
+    print = getD (readBack (p u (T g cs) (pack [] room)) .contents .prints) 0 blankPrint
+
+    size : 0 < print .size
+    unfolding readBack
+    size = some-byte _ (s .some)
+
+    right : PrintRight u (T g cs) print
     unfolding transcript Every BitsRight
-    own d xs s = go (getD (readBack (p u (T cs) (pack [] room)) .contents .prints) 0 blankPrint .id) refl
+    right = d u is-accepted (pack [] room ∷ cs) .0 bytes-nil (packs g o ready) 0 (s .some)
+
+    -- no other fingerprint may speak: none was heard
+    own : print .id ≡ 0
+    own = go (print .id) refl
       where
-        go : (k : ℕ) → getD (readBack (p u (T cs) (pack [] room)) .contents .prints) 0 blankPrint .id ≡ k → k ≡ 0
+        go : (k : ℕ) → print .id ≡ k → k ≡ 0
         go zero e = refl
-        go (suc n) e =
-            let r = d u is-accepted (pack [] room ∷ cs) .0 bytes-nil packs 0 (s .some) 0 (omega (arith, s .size)) .0 in
-            absurd (not-suc-le-zero (rw (e, o .others n) at r))
+        go (suc k) e = absurd (not-suc-le-zero (rw (e, o .heard, played-not 1 0 (suc k) (omega arith)) at (right 0 (omega (arith, size)) .0)))
 
-    -- demand 3 of bit j of the fingerprint whose bytes in this container are xs
-    bit-right : Demand3 p → (xs : List ℕ) → Speaks xs (readBack (p u (T cs) (pack [] room)) .contents) → (j : ℕ) → j < 8
-        → Right h ((bitsPacked 3 q + j) * 50) (bitIn xs j)
-    unfolding transcript Every BitsRight intervalOf
-    bit-right d xs s j l =
-        let r = d u is-accepted (pack [] room ∷ cs) .0 bytes-nil packs 0 (s .some) j (omega (arith, s .size)) .1 in
-        rw (own d xs s, o .heard, o .spoken, s .bytes) at r
+    bit-1 : Right (faded 5998) ((bitsPacked 3 q + 1) * 50) (xs 0 / 2 % 2)
+    unfolding intervalOf bitIn
+    bit-1 = rw (own, o .heard, o .spoken, played-at 1 0 (omega arith), s .bytes 0 size) at (right 1 (omega (arith, size)) .1)
 
-  pub packs-first : p u (T first) (pack [] room) .number ≡ 0
-  unfolding isWaiting
-  packs-first = packs at-first refl
-
-  pub packs-second : p u (T second) (pack [] room) .number ≡ 0
-  unfolding isWaiting
-  packs-second = packs at-second refl
-
-  pub packs-third : p u (T third) (pack [] room) .number ≡ 0
-  unfolding isWaiting
-  packs-third = packs at-third refl
-
-  pub audio-first : audioAfter u (sounded u (T first)) (T first) ≡ true
-  unfolding isWaiting
-  audio-first = has-audio at-first refl (omega arith)
-
-  pub audio-third : audioAfter u (sounded u (T third)) (T third) ≡ true
-  unfolding isWaiting
-  audio-third = has-audio at-third refl (omega arith)
-
-  -- bit 1 has to be 1 in the first container and 0 in the third: no bytes are right in both
-  pub never-both : Demand3 p → (xs : List ℕ) → Speaks xs (readBack (p u (T first) (pack [] room)) .contents)
-      → Speaks xs (readBack (p u (T third) (pack [] room)) .contents) → ⊥
+  -- bit 1 has to be 1 in the first container and 0 in the third: no byte is right in both
+  pub never-both : Demand3 p → (xs : ℕ → ℕ) → Speaks xs (readBack (p u (T g (first 1)) (pack [] room)) .contents)
+      → Speaks xs (readBack (p u (T g (third 1)) (pack [] room)) .contents) → ⊥
   unfolding isWaiting bitsPacked bytesDue cadence cadences
   never-both d xs a b =
-      let one = bit-right at-first refl d xs a 1 (omega arith) .one far-above in
-      let zero = bit-right at-third refl d xs b 1 (omega arith) .zero far-below in
+      let one = bit-1 at-1 refl d xs a .one far-above in
+      let zero = bit-1 at-3 refl d xs b .zero far-below in
       omega arith

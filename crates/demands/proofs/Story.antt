@@ -1,56 +1,69 @@
--- A small run, to hold wrong programs against: 720p at 24 Hz with one mono fingerprint, frames of one and the same line, each packed into 255 bytes.
+-- Small runs, to hold wrong programs against: 720p at any rate with any mix types, frames of one and the same line, each packed into 255 bytes.
 -- Of any program that gives document 01's numbers: the histories after its calls.
 use Prim.Native.Nat.{ℕ, zero, suc, _+_, _*_, _%_, _≤_, _<_}
 use mathlib.Core.Path.{_≡_, refl, sym, ap, _∙_}
-use mathlib.Core.Bool.{Bool, true, false, cond, _&&_, not, and-true, and-false}
+use mathlib.Core.Bool.{Bool, true, false, cond, _&&_, not}
 use mathlib.Core.List.{List, [], _∷_, _++_}
 use native.Mathlib.Omega.{arith}
 use lib.Dec.{leb, eqb}
-use lib.ListN.{length, replicate, length-append, length-replicate}
-use borrow.Author.Tests.{eqb-true, eqb-false, eq-eqb, ne-eqb, le-leb, leb-true, le-ltb}
-use Rattle.laws.specs.Calls.{roomNumber, doneWith}
+use lib.ListN.{length, getD, replicate, length-append, length-replicate}
+use borrow.Author.Tests.{eqb-true, eqb-false, eq-eqb, ne-eqb, le-leb, lt-leb, leb-true, le-ltb}
+use Rattle.laws.specs.Calls.{over, roomNumber, doneWith, outWith}
 use Rattle.laws.proofs.Tests.{past}
-use Rattle.rates.specs.Rates.{rateListed, intervalOf, pairsWith}
-use Rattle.rates.specs.Mixes.{mixListed}
+use Rattle.rates.specs.Rates.{intervalOf}
 use Rattle.sampling.specs.Formats.{table, named, rowOf}
 use Rattle.sampling.specs.Samples.{pixels}
+use Rattle.picture.specs.declared.Told.the-variants.{Open}
 use Rattle.picture.specs.Lines.{twoFields, monitored, dueLine, orderNumber, lineNumber}
-use Rattle.picture.specs.History.{fields, nextField, nextLine, startsFrame, frameShows, Waiting, no-frame, a-frame, isWaiting, takes, linesAfter, waitingAfter, numberSaid}
+use Rattle.picture.specs.History.{fields, nextField, nextLine, startsFrame, frameShows, Waiting, no-frame, a-frame, isWaiting, waitingShows, takes, linesAfter, waitingAfter, numberSaid}
 use Rattle.picture.proofs.Steps.{next-monitored}
 use Rattle.fingerprint.specs.State.{valuesOf}
-use Rattle.fingerprint.specs.Paper.{soundAnswer, heldAnswer}
+use Rattle.fingerprint.specs.Paper.{soundAnswer}
 use Rattle.container.specs.Bytes.{encode}
-use Rattle.container.specs.Writing.{readable, contentsNumber, writeNumber, writeDone}
-use Rattle.session.specs.Prints.{allListed}
-use Rattle.session.specs.Session.{setupNumber}
+use Rattle.container.specs.Writing.{readable, contentsNumber, writeNumber, writeDone, writeOut}
+use Rattle.session.specs.Prints.{withBlanks}
+use Rattle.session.specs.Packing.{videoOf, idOf}
 use Rattle.demands.specs.Calls.{Setup, Call, line, sound, pack, Answer, Event}
-use Rattle.demands.specs.Paper.{linesAt, lines, waitingAt, waiting, samplesAt, samples, madeAt, made, bytesDue, bitsPacked, everyHolds, audioAfter, soundedAt, sounded, contentsSaid, lineSaid, soundSaid, readyNumber, packedSaid, said, accepted, paper, Program, transcript}
+use Rattle.demands.specs.Paper.{linesAt, lines, waitingAt, waiting, samplesAt, samples, madeAt, made, bytesDue, bitsPacked, everyHolds, audioAfter, soundedAt, sounded, printsSaid, audioSaid, contentsSaid, lineSaid, soundSaid, readyNumber, packedSaid, said, accepted, paper, Program, transcript}
 use Rattle.demands.proofs.Listed.{listed}
 use Rattle.demands.proofs.Packable.{said-writes}
 
-abbrev pub u : Setup
-u = record { format = 2; rate = 3; mixes = 1 ∷ [] }
+abbrev pub hd : ℕ → List ℕ → Setup
+hd rate mixes = record { format = 2; rate = rate; mixes = mixes }
 
-pub is-accepted : accepted u ≡ true
-unfolding accepted setupNumber pairsWith rateListed allListed mixListed
-is-accepted = refl
+-- in such a setup, if it is accepted, the program gives document 01's numbers
+pub record Follows (rate : ℕ) (mixes : List ℕ) (p : Program) : Type 0 where
+  pub accepts : accepted (hd rate mixes) ≡ true
+  pub numbers : (cs : List Call) (c : Call)
+      → p (hd rate mixes) (transcript p (hd rate mixes) cs) c .number ≡ paper (hd rate mixes) (transcript p (hd rate mixes) cs) c .number
 
 -- room for any container
 unfoldable pub room : List ℕ
 room = replicate 255 0
 
-room-length : length room ≡ 255
+pub room-length : length room ≡ 255
 unfolding room
 room-length = length-replicate {A = ℕ} 255 0
+
+-- an answer with these bytes in it
+abbrev pub packedAs : List ℕ → Answer
+packedAs bytes = record { number = 0; told = Open; written = length bytes; out = over bytes room }
 
 -- the first k rows of a frame of the line b, after the calls cs
 unfoldable pub rows : List ℕ → ℕ → List Call → List Call
 rows b zero cs = cs
 rows b (suc k) cs = line (117 + 32 * k) b ∷ rows b k cs
 
-pub paper-is : (es : List Event) (c : Call) → paper u es c ≡ said u es c
+pub paper-is : (u : Setup) → accepted u ≡ true → (es : List Event) (c : Call) → paper u es c ≡ said u es c
 unfolding paper
-paper-is es c = rw is-accepted refl
+paper-is u a es c = rw a refl
+
+-- what each fingerprint has heard: nothing yet, and a block more for fingerprint j
+abbrev pub nothing : ℕ → ℕ → List ℕ
+nothing mix k = []
+
+unfoldable pub hears : ℕ → List ℕ → (ℕ → ℕ → List ℕ) → ℕ → ℕ → List ℕ
+hears j b h mix k = cond (eqb j k) (valuesOf mix b ++ h mix k) (h mix k)
 
 -- ---- a row
 
@@ -85,51 +98,46 @@ module _ (ls : List (List ℕ)) (k : ℕ) (small : k < 16) (at : length ls % 16 
       go false e = let z = eqb-false k 15 e in ne-eqb (suc (length ls) % 16) 0 (omega arith)
 
 -- ---- Pack: every container fits
-fits : (es : List Event) → length (encode (contentsSaid u es [])) ≤ 255
+fits : (u : Setup) → accepted u ≡ true → (es : List Event) → length (encode (contentsSaid u es [])) ≤ 255
 unfolding contentsNumber
-fits es =
-    let n = said-writes u (listed u is-accepted) es [] in
+fits u a es =
+    let n = said-writes u (listed u a) es [] in
     leb-true _ _ (past (leb (length (encode (contentsSaid u es []))) 255) 13 0 (past (readable (contentsSaid u es [])) 29 _ n (omega arith) .1) (omega arith) .0)
 
 -- ---- the histories after the calls cs
-module _ (p : Program) (same : (cs : List Call) (c : Call) → p u (transcript p u cs) c .number ≡ paper u (transcript p u cs) c .number) where
+module _ {rate : ℕ} {mixes : List ℕ} {p : Program} (g : Follows rate mixes p) where
+  abbrev u : Setup
+  u = hd rate mixes
+
   abbrev pub T : List Call → List Event
   T cs = transcript p u cs
 
-  pub record At (cs : List Call) (ls : List (List ℕ)) (w : Waiting) (h : List ℕ) (m q : ℕ) : Type 0 where
+  pub record At (cs : List Call) (ls : List (List ℕ)) (w : Waiting) (h : ℕ → ℕ → List ℕ) (m q : ℕ) : Type 0 where
     pub taken : lines 2 (T cs) ≡ ls
     pub waits : waiting 2 (T cs) ≡ w
-    pub heard : samples (T cs) 1 0 ≡ h
-    pub others : (n : ℕ) → samples (T cs) 0 (suc n) ≡ []
+    pub heard : samples (T cs) ≡ h
     pub packed : made (T cs) ≡ m
     pub spoken : sounded u (T cs) ≡ q
 
-  pub start : At [] [] no-frame [] 0 0
+  pub start : At [] [] no-frame nothing 0 0
   unfolding transcript lines waiting samples made sounded
-  start = record { taken = refl; waits = refl; heard = refl; others = λ n. refl; packed = refl; spoken = refl }
+  start = record { taken = refl; waits = refl; heard = refl; packed = refl; spoken = refl }
 
   pub number-is : (cs : List Call) (c : Call) → p u (T cs) c .number ≡ said u (T cs) c .number
-  number-is cs c = same cs c ∙ ap (λ (a : Answer). a .number) (paper-is (T cs) c)
+  number-is cs c = g .numbers cs c ∙ ap (λ (a : Answer). a .number) (paper-is u (g .accepts) (T cs) c)
 
-  module _ {cs : List Call} {ls : List (List ℕ)} {w : Waiting} {h : List ℕ} {m q : ℕ} (o : At cs ls w h m q) where
-    sound-0 : (b : List ℕ) → soundAnswer 1 50 h (bitsPacked 3 q) b ≡ 0 → said u (T cs) (sound 0 b) .number ≡ 0
-    unfolding said soundSaid intervalOf
-    sound-0 b e = rw (o .heard, o .spoken) e
+  module _ {cs : List Call} {ls : List (List ℕ)} {w : Waiting} {h : ℕ → ℕ → List ℕ} {m q : ℕ} (o : At cs ls w h m q) where
+    -- a block that fingerprint j takes
+    module _ (j : ℕ) (l : j < length mixes) (b : List ℕ) (e : soundAnswer (getD mixes j 0) (intervalOf rate) (h (getD mixes j 0) j) (bitsPacked rate q) b ≡ 0) where
+      pub sound-0 : p u (T cs) (sound j b) .number ≡ 0
+      unfolding said soundSaid
+      sound-0 = number-is cs (sound j b) ∙ rw (lt-leb (length mixes) j l, o .heard, o .spoken) e
 
-    -- a block that fingerprint 0 takes
-    pub sound-at : (b : List ℕ) → soundAnswer 1 50 h (bitsPacked 3 q) b ≡ 0 → At (sound 0 b ∷ cs) ls w (valuesOf 1 b ++ h) m q
-    unfolding transcript lines linesAt waiting waitingAt samples samplesAt made madeAt sounded soundedAt
-    sound-at b e = record {
-      taken = o .taken;
-      waits = o .waits;
-      heard = rw (zero-number, o .heard) refl;
-      others = λ n. rw (ne-eqb 0 (suc n) (omega arith), and-false) (o .others n);
-      packed = o .packed;
-      spoken = o .spoken;
-    }
-      where
-        zero-number : p u (T cs) (sound 0 b) .number ≡ 0
-        zero-number = number-is cs (sound 0 b) ∙ sound-0 b e
+      pub sound-at : At (sound j b ∷ cs) ls w (hears j b h) m q
+      unfolding transcript lines linesAt waiting waitingAt samples samplesAt made madeAt sounded soundedAt hears
+      sound-at =
+          let one-more : samples (T (sound j b ∷ cs)) ≡ hears j b (samples (T cs)) = rw sound-0 refl in
+          record { taken = o .taken; waits = o .waits; heard = one-more ∙ ap (hears j b) (o .heard); packed = o .packed; spoken = o .spoken }
 
     -- the next row, while no frame waits
     pub row-number-0 : (k : ℕ) → k < 16 → length ls % 16 ≡ k → w ≡ no-frame → (b : List ℕ) → length b ≡ 2560 → said u (T cs) (line (117 + 32 * k) b) .number ≡ 0
@@ -147,35 +155,52 @@ module _ (p : Program) (same : (cs : List Call) (c : Call) → p u (transcript p
           taken = rw (z, t, o .taken) refl;
           waits = rw (z, t, o .taken, row-starts ls k small at (pixels (rowOf 2) b), o .waits, free) refl;
           heard = o .heard;
-          others = o .others;
           packed = o .packed;
           spoken = o .spoken;
         }
 
     -- the frame that waits is packed, with audio or without
-    pub pack-number-0 : isWaiting w ≡ true → said u (T cs) (pack [] room) .number ≡ 0
-    unfolding said packedSaid readyNumber writeDone writeNumber doneWith roomNumber
-    pack-number-0 e =
+    pub pack-says : isWaiting w ≡ true → said u (T cs) (pack [] room) ≡ packedAs (encode (contentsSaid u (T cs) []))
+    unfolding said packedSaid readyNumber writeDone writeOut writeNumber doneWith outWith roomNumber
+    pack-says e =
         let c = contentsSaid u (T cs) [] in
-        let n = said-writes u (listed u is-accepted) (T cs) [] in
-        rw (o .waits, e, n, room-length, le-ltb 255 (length (encode c)) (fits (T cs))) refl
+        let n = said-writes u (listed u (g .accepts)) (T cs) [] in
+        rw (o .waits, e, n, room-length, le-ltb 255 (length (encode c)) (fits u (g .accepts) (T cs))) refl
 
-    pub pack-at : isWaiting w ≡ true → (t : Bool) → heldAnswer 50 h (bitsPacked 3 q) (bytesDue 3 q) ≡ t
+    pub packs : isWaiting w ≡ true → p u (T cs) (pack [] room) .number ≡ 0
+    packs e = number-is cs (pack [] room) ∙ ap (λ (a : Answer). a .number) (pack-says e)
+
+    pub audio-is : (t : Bool) → everyHolds (intervalOf rate) (bitsPacked rate q) (bytesDue rate q) h 0 mixes ≡ t → audioAfter u (sounded u (T cs)) (T cs) ≡ t
+    unfolding audioAfter
+    audio-is t a = rw (o .heard, o .spoken) a
+
+    pub pack-at : isWaiting w ≡ true → (t : Bool) → everyHolds (intervalOf rate) (bitsPacked rate q) (bytesDue rate q) h 0 mixes ≡ t
         → At (pack [] room ∷ cs) ls no-frame h (m + 1) (cond t (suc q) q)
-    unfolding transcript lines linesAt waiting waitingAt samples samplesAt made madeAt sounded soundedAt audioAfter everyHolds intervalOf
-    pack-at e t a =
-        let z = number-is cs (pack [] room) ∙ pack-number-0 e in
-        record {
-          taken = o .taken;
-          waits = rw z refl;
-          heard = o .heard;
-          others = o .others;
-          packed = rw (z, o .packed) refl;
-          spoken = rw (z, o .heard, o .spoken, a, and-true) refl;
+    unfolding transcript lines linesAt waiting waitingAt samples samplesAt made madeAt sounded soundedAt
+    pack-at e t a = record {
+      taken = o .taken;
+      waits = rw (packs e) refl;
+      heard = o .heard;
+      packed = rw (packs e, o .packed) refl;
+      spoken = rw (packs e, audio-is t a, o .spoken) refl;
+    }
+
+    -- what it says: no ID is lent
+    pub contents-at : (t : Bool) → everyHolds (intervalOf rate) (bitsPacked rate q) (bytesDue rate q) h 0 mixes ≡ t
+        → contentsSaid u (T cs) [] ≡ record {
+          counter = m % 256;
+          rate = rate;
+          hasid = false;
+          id = replicate 20 0;
+          video = videoOf (waitingShows w);
+          count = cond t (length mixes) 0;
+          prints = withBlanks (cond t (printsSaid (intervalOf rate) (bitsPacked rate q) (bytesDue rate q) h 0 mixes) []);
         }
+    unfolding contentsSaid audioSaid idOf
+    contents-at t a = rw (audio-is t a, o .waits, o .packed, o .spoken, o .heard) refl
 
   -- a frame of the line b
-  module _ {cs : List Call} {ls : List (List ℕ)} {h : List ℕ} {m q : ℕ} (o : At cs ls no-frame h m q) (at : length ls % 16 ≡ 0) (b : List ℕ) (l : length b ≡ 2560) where
+  module _ {cs : List Call} {ls : List (List ℕ)} {h : ℕ → ℕ → List ℕ} {m q : ℕ} (o : At cs ls no-frame h m q) (at : length ls % 16 ≡ 0) (b : List ℕ) (l : length b ≡ 2560) where
     abbrev px : List ℕ
     px = pixels (rowOf 2) b
 

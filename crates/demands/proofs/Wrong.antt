@@ -1,89 +1,155 @@
--- Document 01's wrong programs ("What we hold each promise to", "Try these"), each shut out by the demand, or both, that it names. The programs stand in
--- specs/Programs. The runs are small: 720p at 24 Hz, one mono fingerprint, frames of one and the same line (Story, Shots).
-use Prim.Native.Nat.{ℕ, _*_}
+-- Document 01's wrong programs ("What we hold each promise to", "Try these"), each shut out by the demand, or both, that it names. The kinds of program
+-- stand in specs/Programs, one of each in specs/Examples. The runs are small, of 720p: one mono fingerprint at 24 Hz, and two at 25 Hz (Story, Shots).
+use Prim.Native.Nat.{ℕ, _<_}
 use mathlib.Core.Path.{_≡_, sym, ap, subst, _∙_}
+use mathlib.Core.Bool.{true}
 use mathlib.Core.List.{List, [], _∷_}
 use native.Mathlib.Omega.{arith}
-use lib.ListN.{getD}
+use Rattle.laws.proofs.Bytes.{bytes-nil}
+use Rattle.container.specs.declared.Contents.{Contents}
 use Rattle.container.specs.declared.Reading.{Reading}
-use Rattle.container.specs.Contents.{blankPrint}
 use Rattle.container.specs.Reading.{reading}
-use Rattle.demands.specs.Calls.{Call, line, pack, Answer}
-use Rattle.demands.specs.Paper.{contentsSaid, paper, Program, transcript}
-use Rattle.demands.specs.Demands.{Demand2, Demand3}
-use Rattle.demands.specs.Programs.{RefusesAll, telling, packing, forgetting, repeating, inventing, claiming, Speaks, Constant}
-use Rattle.demands.proofs.Story.{u, room, paper-is}
-use Rattle.demands.proofs.Against.{meets, as-said, same, counts, reads-as, constant-bytes, so-far, repeats-as-paper, second-is-first, third-is-first, first-back, speaks, stays, claimed, written-is, first-row, not-again, told-as, tells-0, tells-240, bright, bright-length}
-use Rattle.demands.proofs.Shots.{dark, dark-length, first, second, third, packs-first, packs-second, packs-third, audio-first, audio-third, never-both}
+use Rattle.demands.specs.Calls.{Setup, line, pack, Answer}
+use Rattle.demands.specs.Paper.{accepted, Program, transcript}
+use Rattle.demands.specs.Demands.{readBack, Demand2, Demand3}
+use Rattle.demands.specs.Programs.{RightNumbers, RefusesLines, RefusesSound, RefusesPacks, TellsAlways, ShowsAlways, Speaks, SpeaksAlways, PacksAlways, Forgets, Repeats, Invents, Claims}
+use Rattle.demands.specs.Examples.{refusing, telling, showing, speaking, packing, forgetting, repeating, inventing, claiming}
+use Rattle.demands.proofs.Fade.{click}
+use Rattle.demands.proofs.Story.{room}
+use Rattle.demands.proofs.Shots.{dark, first, second, third, u, is-accepted, first-block, packs-1, packs-2, packs-3, audio-1, audio-3, never-both}
+use Rattle.demands.proofs.Against.{as-said, right-numbers, follows, followed, bits-too, counts, spoken, speaks, reads-same, speaks-same, second-is-first, third-is-first, first-some}
+use Rattle.demands.proofs.Pictured.{first-row, not-again, gives-0, gives-240, told-is, shown-is}
+use Rattle.demands.proofs.Invented.{two, in-one-first, in-two-first, in-two-second, of-two-first, of-two-second, one-first-is, two-first-is, two-second-is}
+use Rattle.demands.proofs.Examples.{refusing-refuses, telling-tells, showing-shows, speaking-speaks, speaking-numbers, packing-packs, packing-numbers, forgetting-forgets, repeating-repeats, repeating-numbers, inventing-invents, claiming-claims}
 
 -- "one that refuses everything (shut out by demand 2, as the table says when to accept)": the first row of the first frame is accepted
-pub refusing-2 : (p : Program) → RefusesAll p → Demand2 p → ⊥
-refusing-2 p r d = r u (transcript p u []) (line 117 dark) (ap (λ (a : Answer). a .number) (as-said p d [] (line 117 dark)) ∙ first-row p d)
+pub refusing-lines-2 : (p : Program) → RefusesLines p → Demand2 p → ⊥
+refusing-lines-2 p r d = r u [] 117 dark (ap (λ (a : Answer). a .number) (as-said p d u is-accepted [] (line 117 dark)) ∙ first-row p d)
+
+-- so is the first block
+pub refusing-sound-2 : (p : Program) → RefusesSound p → Demand2 p → ⊥
+refusing-sound-2 p r d = r u [] 0 click (first-block (follows p d is-accepted))
+
+-- and the first Pack with a frame to pack
+pub refusing-packs-2 : (p : Program) → RefusesPacks p → Demand2 p → ⊥
+refusing-packs-2 p r d = r u (first 1) [] room (packs-1 (follows p d is-accepted))
 
 -- "one constant fingerprint or container (demands 2 and 3)". Demand 2, of a video fingerprint: a third frame tells 0 where it is black as the first was, and
 -- 240 where it is white
-pub constant-fingerprint-2 : (v : ℕ) → Demand2 (telling v) → ⊥
-constant-fingerprint-2 v d =
-    let one = told-as v d dark dark-length 0 tells-0 in
-    let two = told-as v d bright bright-length 240 tells-240 in
+pub constant-told-2 : (p : Program) (v : Setup → ℕ) → TellsAlways v p → Demand2 p → ⊥
+constant-told-2 p v f d =
+    let one = told-is p d v gives-0 f in
+    let other = told-is p d v gives-240 f in
     omega arith
 
--- Demand 3, of an audio fingerprint: after a click its bit 1 has to be 1 in the first container and 0 in the third
-pub constant-fingerprint-3 : (p : Program) (xs : List ℕ) → Constant xs p → Demand3 p → ⊥
-constant-fingerprint-3 p xs k d =
-    let s : (cs : List Call) (c : Call) → p u (transcript p u cs) c .number ≡ paper u (transcript p u cs) c .number = λ cs c. k .numbers u (transcript p u cs) c in
-    never-both p s d xs (k .audio u (transcript p u first) [] room (packs-first p s) (audio-first p s))
-    (k .audio u (transcript p u third) [] room (packs-third p s) (audio-third p s))
+-- and its container has the same
+pub constant-shown-2 : (p : Program) (v : Setup → ℕ) → ShowsAlways v p → Demand2 p → ⊥
+constant-shown-2 p v f d =
+    let one = shown-is p d v gives-0 f in
+    let other = shown-is p d v gives-240 f in
+    omega arith
+
+-- Demand 3, of an audio fingerprint, whatever its bytes and however many: after a click its bit 1 has to be 1 in the first container and 0 in the third. A
+-- program that packs nothing has no wrong bit: hence the numbers
+pub constant-audio-3 : (p : Program) (xs : Setup → ℕ → ℕ) → SpeaksAlways xs p → RightNumbers p → Demand3 p → ⊥
+constant-audio-3 p xs f n d =
+    let g = followed p n in
+    never-both g d (xs u) (f u (first 1) [] room bytes-nil (audio-1 g) (packs-1 g))
+    (f u (third 1) [] room bytes-nil (audio-3 g) (packs-3 g))
+
+-- Demand 2, of the same
+pub constant-audio-2 : (p : Program) (xs : Setup → ℕ → ℕ) → SpeaksAlways xs p → Demand2 p → ⊥
+constant-audio-2 p xs f d = constant-audio-3 p xs f (right-numbers p d) (bits-too p d)
 
 -- Demand 2, of a container, whatever its bytes: the second has another counter than the first
-pub constant-container-2 : (bytes : List ℕ) → Demand2 (packing bytes) → ⊥
-unfolding packing
-constant-container-2 bytes d =
-    let p = packing bytes in
-    let s = same p d in
+pub constant-container-2 : (p : Program) (bytes : Setup → List ℕ) → PacksAlways bytes p → Demand2 p → ⊥
+constant-container-2 p bytes f d =
+    let g = follows p d is-accepted in
     counts p d
-    (reads-as bytes [] room (paper u (transcript p u first) (pack [] room)) (sym (s first (pack [] room)) ∙ packs-first p s)
-    ∙ sym (reads-as bytes [] room (paper u (transcript p u second) (pack [] room)) (sym (s second (pack [] room)) ∙ packs-second p s)))
+    (reads-same p bytes f u (first 1) [] room (packs-1 g) ∙ sym (reads-same p bytes f u (second 1) [] room (packs-2 g)))
 
--- Demand 3, of a container that has a bit of audio at all
-pub constant-container-3 : (bytes xs : List ℕ) → Speaks xs (reading bytes .contents) → Demand3 (packing bytes) → ⊥
-constant-container-3 bytes xs h = constant-fingerprint-3 (packing bytes) xs (constant-bytes bytes xs h)
+-- Demand 3, of a container that has audio at all
+pub constant-container-3 : (p : Program) (bytes : Setup → List ℕ) → PacksAlways bytes p → ((v : Setup) → accepted v ≡ true → 0 < reading (bytes v) .contents .count)
+    → RightNumbers p → Demand3 p → ⊥
+constant-container-3 p bytes f some n = constant-audio-3 p (λ v. spoken (reading (bytes v) .contents)) (speaks-same p bytes f n some) n
 
 -- "one that hands the session back untouched (demand 2)": it takes the same row twice, where the second time is refused with 4
-pub forgetting-2 : Demand2 forgetting → ⊥
-unfolding forgetting transcript
-forgetting-2 d =
-    let one : paper u [] (line 117 dark) .number ≡ 0 = ap (λ (a : Answer). a .number) (paper-is [] (line 117 dark)) ∙ first-row forgetting d in
-    let two : paper u [] (line 117 dark) .number ≡ 4 =
-    ap (λ (a : Answer). a .number) (as-said forgetting d (line 117 dark ∷ []) (line 117 dark)) ∙ not-again forgetting d in
+pub forgetting-2 : (p : Program) → Forgets p → Demand2 p → ⊥
+unfolding transcript
+forgetting-2 p f d =
+    let row = line 117 dark in
+    let one : p u [] row .number ≡ 0 = ap (λ (a : Answer). a .number) (as-said p d u is-accepted [] row) ∙ first-row p d in
+    let again : p u [] row .number ≡ 4 =
+    ap (λ (a : Answer). a .number) (sym (f u (row ∷ []) row) ∙ as-said p d u is-accepted (row ∷ []) row) ∙ not-again p d in
     omega arith
 
 -- "one that works until the first container and then repeats it (demand 2's history and counter, demand 3's every bit)": the second container has another
 -- counter
-pub repeating-2 : Demand2 repeating → ⊥
-repeating-2 d = counts repeating d (sym second-is-first)
+pub repeating-2 : (p : Program) → Repeats p → Demand2 p → ⊥
+repeating-2 p r d = counts p d (sym (second-is-first p r (follows p d is-accepted)))
 
 -- and the third another bit 1 than the first
-pub repeating-3 : Demand3 repeating → ⊥
-repeating-3 d =
-    let xs : List ℕ = getD (contentsSaid u (so-far first) [] .prints) 0 blankPrint .bytes in
-    let s : Speaks xs (contentsSaid u (so-far first) []) = speaks (so-far first) (audio-first repeating repeats-as-paper) in
-    never-both repeating repeats-as-paper d xs
-    (subst (λ (r : Reading). Speaks xs (r .contents)) (sym first-back) s)
-    (subst (λ (r : Reading). Speaks xs (r .contents)) (sym (third-is-first ∙ first-back)) s)
+pub repeating-3 : (p : Program) → Repeats p → RightNumbers p → Demand3 p → ⊥
+repeating-3 p r n d =
+    let g = followed p n in
+    let c : Contents = readBack (p u (transcript p u (first 1)) (pack [] room)) .contents in
+    let s = speaks c (first-some p r g) in
+    never-both g d (spoken c) s (subst (λ (x : Reading). Speaks (spoken c) (x .contents)) (sym (third-is-first p r g)) s)
 
--- "one with invented Length, AFDataCount, fingerprint count or written size (demand 2)". The first container of the run has 10 bytes after its Length
-pub invented-length : (x : ℕ) → (x ≡ 10 → ⊥) → Demand2 (inventing 2 x) → ⊥
-invented-length x n d = n (ap (λ (l : List ℕ). getD l 2 0) (stays 2 x d .1))
+-- "one with invented Length, AFDataCount, fingerprint count or written size (demand 2)". Two fingerprints at 25 Hz: the first container has 15 bytes after its
+-- Length, the second 17
+pub invented-length : (p : Program) (x : Setup → ℕ) → Invents 2 x p → Demand2 p → ⊥
+invented-length p x f d =
+    let one : x two ≡ 15 = in-two-first p d 2 (omega arith) x f ∙ two-first-is .0 in
+    let other : x two ≡ 17 = in-two-second p d 2 (omega arith) x f ∙ two-second-is .0 in
+    omega arith
 
--- five audio bytes, written 5 x 8
-pub invented-data-count : (x : ℕ) → (x ≡ 5 * 8 → ⊥) → Demand2 (inventing 6 x) → ⊥
-invented-data-count x n d = n (ap (λ (l : List ℕ). getD l 6 0) (stays 6 x d .1))
+-- four audio bytes of each, written 4 x 8, and then five
+pub invented-data-count : (p : Program) (x : Setup → ℕ) → Invents 6 x p → Demand2 p → ⊥
+invented-data-count p x f d =
+    let one : x two ≡ 32 = in-two-first p d 6 (omega arith) x f ∙ two-first-is .2 in
+    let other : x two ≡ 40 = in-two-second p d 6 (omega arith) x f ∙ two-second-is .1 in
+    omega arith
 
--- one fingerprint, written (1 - 1) x 8 + 2
-pub invented-count : (x : ℕ) → (x ≡ 2 → ⊥) → Demand2 (inventing 4 x) → ⊥
-invented-count x n d = n (ap (λ (l : List ℕ). getD l 4 0) (stays 4 x d .1))
+-- 18 bytes, and then 20
+pub invented-size : (p : Program) (n : Setup → ℕ) → Claims n p → Demand2 p → ⊥
+invented-size p n f d =
+    let one : n two ≡ 18 = of-two-first p d n f ∙ two-first-is .3 in
+    let other : n two ≡ 20 = of-two-second p d n f ∙ two-second-is .2 in
+    omega arith
 
--- and 13 bytes
-pub invented-size : (n : ℕ) → (n ≡ 13 → ⊥) → Demand2 (claiming n) → ⊥
-invented-size n f d = f (sym (claimed n d) ∙ (ap (λ (b : Answer). b .written) (meets (claiming n) d u first (pack [] room)) ∙ written-is (claiming n) d))
+-- the setup has the right count, so one count for all: one fingerprint is written (1 - 1) x 8 + 2, two (2 - 1) x 8 + 2
+pub invented-count : (p : Program) (x : ℕ) → Invents 4 (λ _. x) p → Demand2 p → ⊥
+invented-count p x f d =
+    let one : x ≡ 2 = in-one-first p d 4 (omega arith) (λ _. x) f ∙ one-first-is in
+    let other : x ≡ 10 = in-two-first p d 4 (omega arith) (λ _. x) f ∙ two-first-is .1 in
+    omega arith
+
+-- ---- There are such programs, whatever the value, the bytes or the size
+
+pub some-refusing : RefusesLines refusing × RefusesSound refusing × RefusesPacks refusing
+some-refusing = refusing-refuses
+
+pub some-told : (v : Setup → ℕ) → TellsAlways v (telling v)
+some-told = telling-tells
+
+pub some-shown : (v : Setup → ℕ) → ShowsAlways v (showing v)
+some-shown = showing-shows
+
+pub some-audio : (xs : Setup → ℕ → ℕ) → ((v : Setup) (i : ℕ) → xs v i < 256) → SpeaksAlways xs (speaking xs) × RightNumbers (speaking xs)
+some-audio xs small = (speaking-speaks xs small, speaking-numbers xs)
+
+pub some-container : (bytes : Setup → List ℕ) → PacksAlways bytes (packing bytes) × RightNumbers (packing bytes)
+some-container bytes = (packing-packs bytes, packing-numbers bytes)
+
+pub some-forgetting : Forgets forgetting
+some-forgetting = forgetting-forgets
+
+pub some-repeating : Repeats repeating × RightNumbers repeating
+some-repeating = (repeating-repeats, repeating-numbers)
+
+pub some-invention : (i : ℕ) (x : Setup → ℕ) → Invents i x (inventing i x)
+some-invention = inventing-invents
+
+pub some-size : (n : Setup → ℕ) → Claims n (claiming n)
+some-size = claiming-claims

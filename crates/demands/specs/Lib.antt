@@ -1,5 +1,6 @@
--- The definitions: the calls, document 01 over their history, the demands.
+-- The definitions: the calls, document 01 over their history, the demands, the wrong programs.
 pub mod Calls
 pub mod Paper
 pub mod Demands
 pub mod Programs
+pub mod Examples

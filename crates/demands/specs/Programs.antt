@@ -1,59 +1,83 @@
--- The wrong programs that document 01 names ("What we hold each promise to"). Each is right but for one thing.
+-- The wrong programs that document 01 names ("What we hold each promise to"): what all programs of a kind do, whatever else they do, so that no byte, value or
+-- size is left out. A constant is one for each setup. Examples has one program of each kind.
 use Prim.Native.Nat.{ℕ, _<_}
 use mathlib.Core.Path.{_≡_}
 use mathlib.Core.Bool.{true, cond}
 use mathlib.Core.List.{List, [], _∷_}
 use lib.Dec.{eqb}
-use lib.ListN.{length, getD, set, take}
-use Rattle.laws.specs.Calls.{over}
-use Rattle.picture.specs.declared.Told.{Told}
-use Rattle.picture.specs.declared.Told.the-variants.{Open, Nothing, Print}
+use lib.ListN.{length, getD, take}
+use Rattle.laws.specs.Bytes.{Bytes}
+use Rattle.picture.specs.declared.Told.the-variants.{Print}
+use Rattle.container.specs.declared.Video.the-variants.{Absent}
 use Rattle.container.specs.declared.Contents.{Contents}
 use Rattle.container.specs.Contents.{blankPrint}
 use Rattle.demands.specs.Calls.{Setup, Call, line, sound, pack, video-restart, audio-restart, Answer, Event}
-use Rattle.demands.specs.Paper.{made, audioAfter, sounded, paper, Program}
+use Rattle.demands.specs.Paper.{made, audioAfter, sounded, contentsSaid, paper, Program, transcript}
 use Rattle.demands.specs.Demands.{readBack}
 
--- "one that refuses everything", with whatever numbers
-abbrev pub RefusesAll : Program → Type 0
-RefusesAll p = (u : Setup) (es : List Event) (c : Call) → p u es c .number ≡ 0 → ⊥
+-- after any calls from any setup, es being what the program has answered to them
+abbrev pub Throughout : Program → (Setup → List Event → Type 0) → Type 0
+Throughout p P = (u : Setup) (cs : List Call) → P u (transcript p u cs)
 
--- "one constant fingerprint": of video, v wherever a field has one
-unfoldable pub toldAs : ℕ → Told → Told
-toldAs v Open = Open
-toldAs v Nothing = Nothing
-toldAs v (Print w) = Print v
+-- document 01's numbers, whatever else is wrong
+abbrev pub RightNumbers : Program → Type 0
+RightNumbers p = Throughout p (λ u es. (c : Call) → p u es c .number ≡ paper u es c .number)
 
-unfoldable pub telling : ℕ → Program
-telling v u es c =
-    record {
-      number = paper u es c .number;
-      told = toldAs v (paper u es c .told);
-      written = paper u es c .written;
-      out = paper u es c .out;
-    }
+-- the container that Pack wrote
+abbrev pub bytesIn : Answer → List ℕ
+bytesIn a = take (a .written) (a .out)
 
--- an answer with these bytes for the container, if it has one
-unfoldable pub withBytes : List ℕ → Call → Answer → Answer
-withBytes bytes (line n b) a = a
-withBytes bytes (sound k b) a = a
-withBytes bytes (pack id out) a = cond (eqb (a .number) 0) (record { number = 0; told = Open; written = length bytes; out = over bytes out }) a
-withBytes bytes video-restart a = a
-withBytes bytes audio-restart a = a
+-- ---- "one that refuses everything", with whatever numbers: every line, every block or every Pack is enough
 
--- "or container"
-unfoldable pub packing : List ℕ → Program
-packing bytes u es c = withBytes bytes c (paper u es c)
+abbrev pub RefusesLines : Program → Type 0
+RefusesLines p = Throughout p (λ u es. (n : ℕ) (b : List ℕ) → p u es (line n b) .number ≡ 0 → ⊥)
 
--- "one that hands the session back untouched": every call is answered as the first after setup
-unfoldable pub forgetting : Program
-forgetting u es c = paper u [] c
+abbrev pub RefusesSound : Program → Type 0
+RefusesSound p = Throughout p (λ u es. (k : ℕ) (b : List ℕ) → p u es (sound k b) .number ≡ 0 → ⊥)
 
--- "one that works until the first container and then repeats it": the newest container is the first, packed again
+abbrev pub RefusesPacks : Program → Type 0
+RefusesPacks p = Throughout p (λ u es. (id out : List ℕ) → p u es (pack id out) .number ≡ 0 → ⊥)
+
+-- ---- "one constant fingerprint": of video
+
+-- wherever document 01 tells a fingerprint, the program tells v
+abbrev pub TellsAlways : (Setup → ℕ) → Program → Type 0
+TellsAlways v p = Throughout p (λ u es. (c : Call) (w : ℕ) → paper u es c .told ≡ Print w → p u es c .told ≡ Print (v u))
+
+-- wherever document 01 has video in a container and no ID is lent, so that byte 5 is the value of the first field, byte 5 of the program's container is v
+abbrev pub ShowsAlways : (Setup → ℕ) → Program → Type 0
+ShowsAlways v p = Throughout p (λ u es. (out : List ℕ) → (contentsSaid u es [] .video ≡ Absent → ⊥) → 5 < length out
+    → p u es (pack [] out) .number ≡ 0 → getD (p u es (pack [] out) .out) 5 0 ≡ v u)
+
+-- ---- "one constant fingerprint": of audio
+
+-- the container has audio, and the bytes of its first fingerprint, as many as it has, are xs 0, xs 1 and so on
+pub record Speaks (xs : ℕ → ℕ) (c : Contents) : Type 0 where
+  pub some : 0 < c .count
+  pub bytes : (i : ℕ) → i < getD (c .prints) 0 blankPrint .size → getD (getD (c .prints) 0 blankPrint .bytes) i 0 ≡ xs i
+
+-- wherever document 01 has audio in a container, the program's container reads so
+abbrev pub SpeaksAlways : (Setup → ℕ → ℕ) → Program → Type 0
+SpeaksAlways xs p = Throughout p (λ u es. (id out : List ℕ) → Bytes id → audioAfter u (sounded u es) es ≡ true → p u es (pack id out) .number ≡ 0
+    → Speaks (xs u) (readBack (p u es (pack id out)) .contents))
+
+-- ---- "or container"
+
+abbrev pub PacksAlways : (Setup → List ℕ) → Program → Type 0
+PacksAlways bytes p = Throughout p (λ u es. (id out : List ℕ) → p u es (pack id out) .number ≡ 0 → bytesIn (p u es (pack id out)) ≡ bytes u)
+
+-- ---- "one that hands the session back untouched": every call is answered as the first after setup
+
+abbrev pub Forgets : Program → Type 0
+Forgets p = Throughout p (λ u es. (c : Call) → p u es c ≡ p u [] c)
+
+-- ---- "one that works until the first container and then repeats it"
+
+-- the newest container of a history
 unfoldable pub newestAt : Call → Answer → List ℕ → List ℕ
 newestAt (line n b) a bytes = bytes
 newestAt (sound k b) a bytes = bytes
-newestAt (pack id out) a bytes = cond (eqb (a .number) 0) (take (a .written) (a .out)) bytes
+newestAt (pack id out) a bytes = cond (eqb (a .number) 0) (bytesIn a) bytes
 newestAt video-restart a bytes = bytes
 newestAt audio-restart a bytes = bytes
 
@@ -61,33 +85,19 @@ unfoldable pub newest : List Event → List ℕ
 newest [] = []
 newest (e ∷ es) = newestAt (e .call) (e .answer) (newest es)
 
-unfoldable pub repeating : Program
-repeating u es c = cond (eqb (made es) 0) (paper u es c) (withBytes (newest es) c (paper u es c))
+pub record Repeats (p : Program) : Type 0 where
+  pub works : Throughout p (λ u es. (c : Call) → made es ≡ 0 → p u es c ≡ paper u es c)
+  pub repeats :
+      Throughout p (λ u es. (id out : List ℕ) → (made es ≡ 0 → ⊥) → p u es (pack id out) .number ≡ 0 → bytesIn (p u es (pack id out)) ≡ newest es)
 
--- "one with invented Length, AFDataCount, fingerprint count": byte i of each container is x
-unfoldable pub withByte : ℕ → ℕ → Call → Answer → Answer
-withByte i x (line n b) a = a
-withByte i x (sound k b) a = a
-withByte i x (pack id out) a = record { number = a .number; told = a .told; written = a .written; out = cond (eqb (a .number) 0) (set (a .out) i x) (a .out) }
-withByte i x video-restart a = a
-withByte i x audio-restart a = a
+-- ---- "one with invented Length, AFDataCount, fingerprint count or written size"
 
-unfoldable pub inventing : ℕ → ℕ → Program
-inventing i x u es c = withByte i x c (paper u es c)
+-- wherever document 01 has audio and no video in a container and no ID is lent, so that byte 2 is Length, byte 4 has the fingerprint count and byte 6 the first
+-- AFDataCount, byte i of the program's container is x
+abbrev pub Invents : ℕ → (Setup → ℕ) → Program → Type 0
+Invents i x p = Throughout p (λ u es. (out : List ℕ) → audioAfter u (sounded u es) es ≡ true → contentsSaid u es [] .video ≡ Absent
+    → i < length out → p u es (pack [] out) .number ≡ 0 → getD (p u es (pack [] out) .out) i 0 ≡ x u)
 
--- "or written size"
-unfoldable pub claiming : ℕ → Program
-claiming n u es c =
-    record { number = paper u es c .number; told = paper u es c .told; written = cond (eqb (paper u es c .number) 0) n 0; out = paper u es c .out }
-
--- "one constant fingerprint": of audio. The program gives document 01's numbers, and wherever document 01 has audio in a container, the program's container
--- reads with one fingerprint or more, the first of them of one byte or more, and these are the first of xs
-pub record Speaks (xs : List ℕ) (c : Contents) : Type 0 where
-  pub some : 0 < c .count
-  pub size : 0 < getD (c .prints) 0 blankPrint .size
-  pub bytes : getD (c .prints) 0 blankPrint .bytes ≡ xs
-
-pub record Constant (xs : List ℕ) (p : Program) : Type 0 where
-  pub numbers : (u : Setup) (es : List Event) (c : Call) → p u es c .number ≡ paper u es c .number
-  pub audio : (u : Setup) (es : List Event) (id out : List ℕ) → p u es (pack id out) .number ≡ 0 → audioAfter u (sounded u es) es ≡ true
-      → Speaks xs (readBack (p u es (pack id out)) .contents)
+-- every container is said to have n bytes
+abbrev pub Claims : (Setup → ℕ) → Program → Type 0
+Claims n p = Throughout p (λ u es. (id out : List ℕ) → p u es (pack id out) .number ≡ 0 → p u es (pack id out) .written ≡ n u)
