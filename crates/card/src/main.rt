@@ -1,10 +1,16 @@
-// Reads a feed from standard input, makes its calls one after the other, and prints one line for each (FEED).
-ghost use Prim.Native.Nat.{_≤_};
+// Reads a feed from standard input, makes its calls one after the other, and prints one line for each (FEED); on standard error it says why a record is bad.
 ghost use mathlib.Core.Path.{_≡_};
-ghost use mathlib.Core.Bool.{false};
 ghost use lib.ListN.{length};
-use feed::Fed;
+use answers::Answer;
+use answers::Cause;
 use session::Session;
+
+// What a record was answered, the session that the next one finds, and how many bytes the record has.
+struct Turn {
+    answer: Answer,
+    session: Session,
+    read: usize,
+}
 
 // Room for the longest record: a tag, a length and 65,535 bytes.
 fn record_room() -> [u8; 65538]
@@ -20,36 +26,42 @@ fn line_room() -> [u8; 8256]
     [0; 8256]
 }
 
-// Reads the payload into the part, and answers how many bytes of it there are.
-fn read_payload(part: &mut [u8]) -> usize
-    ensures { λ r. ⌜ r ≤ length (now (part .entry)) ⌝ }
-{
-    io::read_full(0, part)
-}
-
-// Reads the next record, and answers how many bytes of it there are: fewer than it has where the input ends first.
-fn read_record(bytes: &mut [u8]) -> usize
-    requires { ⌜ length (now bytes) ≡ 65538 ⌝ }
-    ensures { λ r. ⌜ r ≤ 65538 ⌝ }
-{
-    let head = io::read_full(0, &mut bytes[..3]);
-    if head < 3 {
-        return head;
-    }
-    let end = 3 + records::pair_at(bytes, 1);
-    3 + read_payload(&mut bytes[3..end])
-}
-
 // Reads and answers one record, and prints its line.
-fn turn(s: Session, bytes: &mut [u8], line: &mut [u8]) -> Fed
-    requires { ⌜ (length (now bytes) ≡ 65538) × (length (now line) ≡ 8256) ⌝ }
+fn answer_next(s: Session, bytes: &mut [u8], line: &mut [u8]) -> Turn
+    requires { ⌜ length (now line) ≡ 8256 ⌝ }
 {
-    let n = read_record(bytes);
-    let fed = feed::next(s, &bytes[..n], line);
-    let said = fed.said;
-    let size = said.size;
+    let read = intake::read_record(bytes);
+    let fed = feed::next(s, &bytes[..read], line);
+    let size = fed.size;
     io::write_all(1, &line[..size]);
-    fed
+    let answer = fed.answer;
+    let session = fed.session;
+    Turn {
+        answer,
+        session,
+        read,
+    }
+}
+
+// `card: record N, at byte P: ` and why the record is bad.
+fn complain(number: u64, byte: u64, cause: Cause) {
+    let mut line = [0u8; 128];
+    let a = text::put(b"card: ", &mut line, 0);
+    let b = answers::fault::put_fault(number, byte, cause, &mut line, a);
+    let size = text::put(b"\n", &mut line, b);
+    io::write_all(2, &line[..size]);
+}
+
+// Whether the feed stops at an answer; of a bad record it is said why.
+fn stops(answer: Answer, number: u64, byte: u64) -> bool {
+    match answer {
+        Answer::Bad(cause) => {
+            complain(number, byte, cause);
+            true
+        }
+        Answer::Finished => true,
+        _ => false,
+    }
 }
 
 fn main() {
@@ -57,13 +69,15 @@ fn main() {
     let mut line = line_room();
     let mut session = feed::open();
     let mut left: u64 = 18446744073709551615;
+    let mut byte: u64 = 0;
     while 0 < left {
         left -= 1;
-        let fed = turn(session, &mut bytes, &mut line);
-        let said = fed.said;
-        if said.stop {
+        let turn = answer_next(session, &mut bytes, &mut line);
+        let answer = turn.answer;
+        if stops(answer, 18446744073709551615 - left, byte) {
             return;
         }
-        session = fed.session;
+        session = turn.session;
+        byte = std::num::wrapping_add_u64(byte, turn.read as u64);
     }
 }

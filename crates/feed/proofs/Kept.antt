@@ -1,16 +1,17 @@
--- What each call with a room does with the buffer lent: it counts no more than the room, and keeps the bytes beyond those counted.
-use Prim.Native.Nat.{ℕ, _≤_}
+-- What each call with a room does with the buffer lent: it counts no more than the room, and keeps the bytes beyond those counted. So ` spilled` never comes.
+use Prim.Native.Nat.{ℕ, _-_, _≤_}
 use mathlib.Core.Path.{_≡_, refl, ap, subst, _∙_}
 use mathlib.Core.List.{List, _++_}
 use mathlib.Core.Bool.{Bool, true, false, cond}
 use native.Mathlib.Omega.{arith}
-use lib.ListN.{length, drop, length-append, length-drop}
+use lib.ListN.{length, take, drop, length-append, length-drop}
 use lib.Seq.{drop-append-seam}
-use lib.Dec.{eqb}
+use lib.Dec.{leb, ltb, eqb}
 use borrow.Author.Tests.{eqb-true}
 use Rattle.laws.specs.declared.Done.{Done}
 use Rattle.laws.specs.Calls.{over, roomNumber, doneWith, outWith}
 use Rattle.laws.proofs.Calls.{told-zero}
+use Rattle.laws.proofs.Tests.{chosen}
 use Rattle.sampling.specs.Samples.{sampleNumber, pixels, sampleDone, sampleOut}
 use Rattle.sampling.specs.Formats.{rowOf}
 use Rattle.container.specs.declared.Contents.{Contents}
@@ -19,11 +20,31 @@ use Rattle.container.specs.Reading.{reading}
 use Rattle.container.specs.Writing as container
 use Rattle.packet.specs.Writing as packet
 use Rattle.packet.specs.Reading as unpacket
-use Rattle.feed.specs.declared.Said.{Said}
-use Rattle.feed.specs.Lines.{Answer, isUntouched, handed, watched}
-use Rattle.feed.specs.Alone.{rewriteDone, rewriteOut}
-use Rattle.feed.proofs.Ends.{Printed}
-use Rattle.feed.proofs.Watch.{no-spill}
+use Rattle.container.specs.Writing.{writeDone, writeOut}
+use Rattle.session.specs.declared.Session.{Session}
+use Rattle.session.specs.declared.Packed.{Packed}
+use Rattle.session.specs.Packing.{packNumber, contentsOf, sessionAfter, refusedWith, packedWith, packOf, packOut}
+use Rattle.flat.specs.Unflat.{unflat}
+use Rattle.report.specs.Report.{reported}
+use Rattle.report.proofs.Sizes.{reported-size}
+use Rattle.records.specs.declared.Record.{Record}
+use Rattle.records.specs.declared.Record.the-variants.{Whole, Cut, End}
+use Rattle.records.specs.Records.{byteAt, recordAt}
+use Rattle.answers.specs.declared.Cause.{Cause}
+use Rattle.answers.specs.declared.Cause.the-variants.{UnknownTag, CutShort}
+use Rattle.answers.specs.declared.Hand.{Hand}
+use Rattle.answers.specs.declared.Hand.the-variants.{Pack, Sample, Rewrite, Wrap, Unwrap, Write}
+use Rattle.feed.specs.declared.Room.{Room}
+use Rattle.feed.specs.declared.Room.the-variants.{Of, Not}
+use Rattle.answers.specs.declared.Answer.{Answer}
+use Rattle.answers.specs.declared.Answer.the-variants.{Setup, Line, Sound, VideoRestart, AudioRestart, Handed, Reported, Bad, Finished}
+use Rattle.feed.specs.declared.Answered.{Answered}
+use Rattle.answers.specs.Lines.{untouched, fresh, isUntouched, Quiet}
+use Rattle.feed.specs.Alone.{Reply, inWork, roomAt, sampleLent, sampleIn, sampleFed, readFed, rewriteDone, rewriteOut, writeLent, lentFed, roomIn, roomFed, aloneFed}
+use Rattle.feed.specs.Calls.{Step, begun, lined, sounded, doneOf, packed, setupFed, lineFed, soundFed, packIn, packFed, restartFed, sessionFed}
+use Rattle.feed.specs.Feed.{leaves, fed, recordFed, front}
+use Rattle.answers.proofs.Watch.{untouched-is, untouched-size, untouched-drop, work-size, work-untouched}
+use Rattle.feed.proofs.Rooms.{room-most}
 
 pub record Kept (lent : List ℕ) (written : ℕ) (left : List ℕ) : Type 0 where
   pub within : written ≤ length lent
@@ -76,12 +97,154 @@ rewrite-kept bytes lent = go (eqb (reading bytes .number) 0)
     go true = write-kept (reading bytes .contents) lent
     go false = none-kept lent
 
--- so the line of a call has no ` spilled`
-pub quiet : (word o o′ lent left left′ : List ℕ) (d d′ : Done) (r : Said) → isUntouched lent ≡ true → d ≡ d′ → left ≡ left′ → Kept lent (d′ .written) left′
-    → Printed (watched word d left) o r o′ → Printed (handed word d′ left′) o r o′
-quiet word o o′ lent left left′ d d′ r u p q k w =
-    subst (λ (a : Answer). Printed a o r o′) (ap (λ (x : Done). watched word x left) p ∙ ap (watched word d′) q ∙ no-spill word d′ lent left′ u (k .beyond)) w
+-- what a refused Write counts
+unwritten : (k : Contents) (room : ℕ) → eqb (writeDone k room .number) 0 ≡ false → writeDone k room .written ≡ 0
+unfolding writeDone doneWith
+unwritten k room e = rw e
 
--- and what is counted lies within the room
-pub ready : (lent left left′ : List ℕ) (d d′ : Done) → length lent ≤ 4096 → d ≡ d′ → left ≡ left′ → Kept lent (d′ .written) left′ → (d .written ≤ length left) × (length left ≤ 4096)
-ready lent left left′ d d′ h p q k = omega (arith, ap (λ (x : Done). x .written) p, ap length q, k .within, k .same)
+-- Pack counts no more than the room, and keeps the bytes beyond those counted
+pub pack-kept : (s : Session) (id lent : List ℕ) → Kept lent (doneOf (packOf s id (length lent)) .written) (packOut s id lent)
+unfolding doneOf packOf packOut
+pack-kept s id lent = go (eqb (packNumber s (length id)) 0)
+  where
+    k : Contents
+    k = contentsOf s id
+
+    inner : (u : Bool) → eqb (writeDone k (length lent) .number) 0 ≡ u
+        → Kept lent (cond {A = Packed} u (record { number = 0; written = writeDone k (length lent) .written; session = sessionAfter s }) (refusedWith (writeDone k (length lent) .number) s) .written) (writeOut k lent)
+    inner true e = write-kept k lent
+    inner false e = subst (λ (w : ℕ). Kept lent w (writeOut k lent)) (unwritten k (length lent) e) (write-kept k lent)
+
+    go : (t : Bool) → Kept lent (cond t (packedWith s (writeDone k (length lent))) (refusedWith (packNumber s (length id)) s) .written) (cond t (writeOut k lent) lent)
+    go true = inner (eqb (writeDone k (length lent) .number) 0) refl
+    go false = none-kept lent
+
+-- ---- a call in its room, and the work buffer of which the room is the front
+
+-- what a call with a room gives: the room's size stays, and its answer is quiet there
+abbrev pub InRoom : ℕ → Reply → Type 0
+InRoom room r = (length (r .left) ≡ room) × Quiet (r .answer) (r .left)
+
+-- what a record gives: the work buffer's size stays, and the answer is quiet
+abbrev pub Held : Answer → List ℕ → Type 0
+Held a left = (length left ≡ 4096) × Quiet a left
+
+quiet-work : (a : Answer) (left : List ℕ) → length left ≤ 4096 → Quiet a left → Quiet a (over left fresh)
+unfolding Quiet
+quiet-work (Handed hand d) left h q = (omega (arith, work-size left h), work-untouched (d .written) left (q .0) (q .1))
+quiet-work (Reported size) left h q = omega (arith, work-size left h)
+quiet-work (Setup n) left h q = q
+quiet-work (Line n told) left h q = q
+quiet-work (Sound n) left h q = q
+quiet-work VideoRestart left h q = q
+quiet-work AudioRestart left h q = q
+quiet-work (Bad cause) left h q = q
+quiet-work Finished left h q = q
+
+held-work : (a : Answer) (left : List ℕ) → length left ≤ 4096 → Quiet a left → Held a (over left fresh)
+held-work a left h q = (work-size left h, quiet-work a left h q)
+
+-- a call that keeps the bytes beyond those counted
+handed-in : (hand : Hand) (d : Done) (room : ℕ) (left : List ℕ) → Kept (untouched room) (d .written) left → InRoom room (record { answer = Handed hand d; left = left })
+unfolding Quiet
+handed-in hand d room left k = (
+  k .same ∙ untouched-size room,
+  (omega (arith, k .within, k .same), ap isUntouched (k .beyond) ∙ untouched-drop (d .written) (untouched room) (untouched-is room)),
+)
+
+-- the buffer is given back as it was lent
+back : (a : Answer) (room : ℕ) → Quiet a (untouched room) → InRoom room (record { answer = a; left = untouched room })
+back a room q = (untouched-size room, q)
+
+bad-in : (cause : Cause) (room : ℕ) → InRoom room (record { answer = Bad cause; left = untouched room })
+unfolding Quiet
+bad-in cause room = back (Bad cause) room (omega arith)
+
+pub lent-in : (tag : ℕ) (rest : List ℕ) (room : ℕ) → InRoom room (lentFed tag rest (untouched room))
+unfolding lentFed writeLent
+lent-in tag rest room =
+    let P : Reply → Type 0 = InRoom room in
+    let lent : List ℕ = untouched room in
+    chosen P (eqb tag 0x22) _ _ (λ _. handed-in Rewrite _ room _ (rewrite-kept rest lent))
+    (λ _. chosen P (eqb tag 0x23) _ _ (λ _. handed-in Wrap _ room _ (wrap-kept rest lent))
+    (λ _. chosen P (eqb tag 0x24) _ _ (λ _. handed-in Unwrap _ room _ (unwrap-kept rest lent))
+    (λ _. chosen P (eqb tag 0x25) _ _ (λ _. chosen P (unflat rest .ok) _ _ (λ _. handed-in Write _ room _ (write-kept (unflat rest .contents) lent)) (λ _. bad-in _ room))
+    (λ _. bad-in _ room))))
+
+-- ---- every record
+
+abbrev HeldReply : Reply → Type 0
+HeldReply r = Held (r .answer) (r .left)
+
+abbrev HeldStep : Step → Type 0
+HeldStep t = Held (t .answered .answer) (t .left)
+
+none-held : (a : Answer) → Quiet a fresh → Held a fresh
+none-held a q = (untouched-size 4096, q)
+
+bad-held : (cause : Cause) → Held (Bad cause) fresh
+unfolding Quiet
+bad-held cause = none-held (Bad cause) (omega arith)
+
+in-held : (room : ℕ) (r : Reply) → room ≤ 4096 → InRoom room r → HeldReply (inWork r)
+unfolding inWork
+in-held room r h q = held-work (r .answer) (r .left) (omega (arith, q .0)) (q .1)
+
+sample-held : (p : List ℕ) (r : Room) → roomAt p 1 ≡ r → HeldReply (sampleIn p r)
+unfolding sampleIn sampleLent
+sample-held p (Of room) e = in-held room _ (room-most p 1 room e) (handed-in Sample _ room _ (sample-kept (byteAt p 0) (drop 3 p) (untouched room)))
+sample-held p (Not cause) e = bad-held cause
+
+room-held : (tag : ℕ) (p : List ℕ) (r : Room) → roomAt p 0 ≡ r → HeldReply (roomIn tag p r)
+unfolding roomIn
+room-held tag p (Of room) e = in-held room _ (room-most p 0 room e) (lent-in tag (drop 2 p) room)
+room-held tag p (Not cause) e = bad-held cause
+
+alone-held : (tag : ℕ) (p : List ℕ) → HeldReply (aloneFed tag p)
+unfolding aloneFed sampleFed readFed roomFed Quiet
+alone-held tag p =
+    chosen HeldReply (eqb tag 0x20) _ _ (λ _. sample-held p (roomAt p 1) refl)
+    (λ _. chosen HeldReply (eqb tag 0x21) _ _ (λ _. held-work (Reported (length (reported (reading p)))) (reported (reading p)) (omega (arith, reported-size (reading p))) (omega arith))
+    (λ _. chosen HeldReply (ltb 0x25 tag) _ _ (λ _. bad-held (UnknownTag tag))
+    (λ _. room-held tag p (roomAt p 0) refl)))
+
+pack-held : (s : Session) (p : List ℕ) (r : Room) → roomAt p 0 ≡ r → HeldStep (packIn s p r)
+unfolding packIn packed
+pack-held s p (Of room) e =
+    let k = subst (λ (n : ℕ). Kept (untouched room) (doneOf (packOf s (drop 2 p) n) .written) (packOut s (drop 2 p) (untouched room))) (untouched-size room) (pack-kept s (drop 2 p) (untouched room)) in
+    let q = handed-in Pack (doneOf (packOf s (drop 2 p) room)) room _ k in
+    held-work _ _ (omega (arith, q .0, room-most p 0 room e)) (q .1)
+pack-held s p (Not cause) e = bad-held cause
+
+-- a call on the session that is lent no room, or its refusal
+plain-held : (t : Bool) (a b : Answered) → Quiet (a .answer) fresh → Quiet (b .answer) fresh → Held (cond t a b .answer) fresh
+plain-held true a b q r = none-held _ q
+plain-held false a b q r = none-held _ r
+
+session-held : (s : Session) (tag : ℕ) (p : List ℕ) → HeldStep (sessionFed s tag p)
+unfolding sessionFed setupFed begun lineFed lined soundFed sounded packFed restartFed Quiet
+session-held s tag p =
+    chosen HeldStep (eqb tag 0x10) _ _ (λ _. plain-held (leb 2 (length p)) _ _ (omega arith) (omega arith))
+    (λ _. chosen HeldStep (eqb tag 0x11) _ _ (λ _. plain-held (leb 2 (length p)) _ _ (omega arith) (omega arith))
+    (λ _. chosen HeldStep (eqb tag 0x12) _ _ (λ _. plain-held (leb 1 (length p)) _ _ (omega arith) (omega arith))
+    (λ _. chosen HeldStep (eqb tag 0x13) _ _ (λ _. pack-held s p (roomAt p 0) refl)
+    (λ _. chosen HeldStep (eqb tag 0x14) _ _ (λ _. plain-held (eqb (length p) 0) _ _ (omega arith) (omega arith))
+    (λ _. chosen HeldStep (eqb tag 0x15) _ _ (λ _. plain-held (eqb (length p) 0) _ _ (omega arith) (omega arith))
+    (λ _. bad-held (UnknownTag tag)))))))
+
+fed-held : (s : Session) (tag : ℕ) (p : List ℕ) → HeldStep (fed s tag p)
+unfolding fed leaves
+fed-held s tag p = chosen HeldStep (ltb tag 0x20) _ _ (λ _. session-held s tag p) (λ _. alone-held tag p)
+
+pub front-held : (s : Session) (bytes : List ℕ) → HeldStep (front s bytes)
+unfolding front recordFed Quiet
+front-held s bytes = go (recordAt bytes 0)
+  where
+    go : (r : Record) → HeldStep (recordFed s bytes r)
+    go (Whole tag start end) = fed-held s tag (take (end - start) (drop start bytes))
+    go Cut = bad-held CutShort
+    go End = none-held Finished (omega arith)
+
+-- no call touches a byte of the work buffer beyond those that it counts, so ` spilled` is never printed
+pub quiet : (s : Session) (bytes : List ℕ) → Quiet (front s bytes .answered .answer) (front s bytes .left)
+quiet s bytes = front-held s bytes .1

@@ -1,10 +1,6 @@
-pub mod Parts
-pub mod Hex
-pub mod Watch
-pub mod Ends
-pub mod Kept
 pub mod Rooms
-pub mod Steps
+pub mod Kept
 pub mod Sizes
+pub mod Steps
 pub mod Opening
 pub mod Unique

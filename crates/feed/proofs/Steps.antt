@@ -1,69 +1,93 @@
--- What a record does, told and carried on: the laws that the calls on a session share.
+-- What a call answers and leaves, carried on: the laws that the calls share.
 use Prim.Native.Nat.{ℕ, _≤_, _<_}
-use mathlib.Core.Path.{_≡_, refl, ap, subst, _∙_}
-use mathlib.Core.List.{List}
-use mathlib.Core.Bool.{Bool, true, false, cond}
-use lib.ListN.{length}
-use lib.Seq.{sets}
-use lib.Dec.{leb, eqb}
-use borrow.Author.Tests.{le-leb, lt-leb, eq-eqb, ne-eqb}
-use Rattle.container.specs.declared.Contents.{Contents}
-use Rattle.container.specs.Writing.{writeDone, writeOut}
-use Rattle.laws.specs.Calls.{doneWith}
+use mathlib.Core.Path.{_≡_, sym, ap, subst, _∙_}
+use mathlib.Core.List.{List, _++_}
+use mathlib.Core.Bool.{cond}
+use lib.ListN.{length, drop}
+use lib.Dec.{leb}
+use borrow.Author.Tests.{le-leb, lt-leb}
+use Rattle.laws.specs.declared.Done.{Done}
+use Rattle.laws.specs.Calls.{over}
+use Rattle.records.specs.Records.{byteAt}
+use Rattle.sampling.specs.Samples.{sampleDone, sampleOut}
 use Rattle.session.specs.declared.Session.{Session}
 use Rattle.session.specs.declared.Packed.{Packed}
-use Rattle.session.specs.Packing.{packNumber, contentsOf, sessionAfter, refusedWith, packedWith, packOf, packOut}
-use Rattle.feed.specs.declared.Said.{Said}
-use Rattle.feed.specs.declared.Fed.{Fed}
-use Rattle.feed.specs.Lines.{Answer, saidOf}
-use Rattle.feed.specs.Calls.{Step, step, fedOf, doneOf}
-use Rattle.feed.proofs.Ends.{Printed}
-use Rattle.feed.proofs.Kept.{Kept, none-kept, write-kept}
+use Rattle.session.specs.Packing.{packOf, packOut}
+use Rattle.answers.specs.declared.Cause.{Cause}
+use Rattle.answers.specs.declared.Hand.the-variants.{Sample}
+use Rattle.feed.specs.declared.Room.the-variants.{Of, Not}
+use Rattle.answers.specs.declared.Answer.{Answer}
+use Rattle.answers.specs.declared.Answer.the-variants.{Handed, Bad}
+use Rattle.feed.specs.declared.Answered.{Answered}
+use Rattle.answers.specs.Lines.{untouched, fresh}
+use Rattle.feed.specs.Alone.{Reply, reply, inWork, roomAt, sampleLent, sampleIn, sampleFed, lentFed, roomIn, roomFed}
+use Rattle.feed.specs.Calls.{Step, step, badFed, packed, packIn, packFed}
+use Rattle.answers.proofs.Watch.{untouched-size}
+use Rattle.feed.proofs.Rooms.{work-after}
+use Rattle.feed.proofs.Kept.{sample-kept, pack-kept, lent-in}
 
--- the step is told, and its line stands at the front of the buffer
-abbrev pub Feeds : Step → List ℕ → Fed → List ℕ → Type 0
-Feeds t o r o′ = (r ≡ fedOf t) × (o′ ≡ sets o 0 (t .answer .line))
+abbrev pub Gives : Reply → Answer → List ℕ → Type 0
+Gives t a w = (a ≡ t .answer) × (w ≡ t .left)
 
-pub as-fed : (t u : Step) (o o′ : List ℕ) (r : Fed) → t ≡ u → Feeds t o r o′ → Feeds u o r o′
-as-fed t u o o′ r e p = subst (λ (x : Step). Feeds x o r o′) e p
+abbrev pub Does : Step → Answered → List ℕ → Type 0
+Does t a w = (a ≡ t .answered) × (w ≡ t .left)
 
--- an answer, and the session that goes on
-pub goes : (a : Answer) (o o′ : List ℕ) (said : Said) (s next : Session) → Printed a o said o′ → next ≡ s → Feeds (step a s) o (record { said = said; session = next }) o′
-unfolding fedOf
-goes a o o′ said s next p e =
-    (ap {B = Fed} (λ (x : Said). record { said = x; session = next }) (p .0) ∙ ap {B = Fed} (λ (x : Session). record { said = saidOf a; session = x }) e, p .1)
+pub gives-as : (t u : Reply) (a : Answer) (w : List ℕ) → t ≡ u → Gives t a w → Gives u a w
+gives-as t u a w e p = subst (λ (x : Reply). Gives x a w) e p
+
+pub does-as : (t u : Step) (a : Answered) (w : List ℕ) → t ≡ u → Does t a w → Does u a w
+does-as t u a w e p = subst (λ (x : Step). Does x a w) e p
 
 -- a payload that is long enough for its fixed part, and one that is not
-pub when-enough : (n size : ℕ) (t u : Step) → n ≤ size → t ≡ cond (leb n size) t u
+pub when-enough : {A : Type 0} (n size : ℕ) (t u : A) → n ≤ size → t ≡ cond (leb n size) t u
 when-enough n size t u h = rw (le-leb n size h)
 
-pub when-short : (n size : ℕ) (t u : Step) → size < n → u ≡ cond (leb n size) t u
+pub when-short : {A : Type 0} (n size : ℕ) (t u : A) → size < n → u ≡ cond (leb n size) t u
 when-short n size t u h = rw (lt-leb n size h)
 
-pub when-none : (size : ℕ) (t u : Step) → size ≡ 0 → t ≡ cond (eqb size 0) t u
-when-none size t u h = rw (eq-eqb size 0 h)
+-- ---- a record with a room: it has none, or the call was lent it
 
-pub when-some : (size : ℕ) (t u : Step) → (size ≡ 0 → ⊥) → u ≡ cond (eqb size 0) t u
-when-some size t u h = rw (ne-eqb size 0 h)
+module _ (p : List ℕ) (cause : Cause) where
+  pub sample-none : roomAt p 1 ≡ Not cause → reply (Bad cause) fresh ≡ sampleFed p
+  unfolding sampleFed sampleIn
+  sample-none e = sym (ap (sampleIn p) e)
 
--- what a refused Write counts
-unwritten : (k : Contents) (room : ℕ) → eqb (writeDone k room .number) 0 ≡ false → writeDone k room .written ≡ 0
-unfolding writeDone doneWith
-unwritten k room e = rw e
+  pub room-none : (tag : ℕ) → roomAt p 0 ≡ Not cause → reply (Bad cause) fresh ≡ roomFed tag p
+  unfolding roomFed roomIn
+  room-none tag e = sym (ap (roomIn tag p) e)
 
--- Pack counts no more than the room, and keeps the bytes beyond those counted
-pub pack-kept : (s : Session) (id lent : List ℕ) → Kept lent (doneOf (packOf s id (length lent)) .written) (packOut s id lent)
-unfolding doneOf packOf packOut
-pack-kept s id lent = go (eqb (packNumber s (length id)) 0)
-  where
-    k : Contents
-    k = contentsOf s id
+  pub pack-none : (s : Session) → roomAt p 0 ≡ Not cause → step (badFed s cause) fresh ≡ packFed s p
+  unfolding packFed packIn
+  pack-none s e = sym (ap (packIn s p) e)
 
-    inner : (u : Bool) → eqb (writeDone k (length lent) .number) 0 ≡ u
-        → Kept lent (cond {A = Packed} u (record { number = 0; written = writeDone k (length lent) .written; session = sessionAfter s }) (refusedWith (writeDone k (length lent) .number) s) .written) (writeOut k lent)
-    inner true e = write-kept k lent
-    inner false e = subst (λ (w : ℕ). Kept lent w (writeOut k lent)) (unwritten k (length lent) e) (write-kept k lent)
+module _ (p rest lent left work : List ℕ) (room : ℕ) (l : lent ≡ untouched room) (w : work ≡ fresh) where
+  pub samples : (d : Done) → roomAt p 1 ≡ Of room → rest ≡ drop 3 p → d ≡ sampleDone (byteAt p 0) rest lent → left ≡ sampleOut (byteAt p 0) rest lent
+      → Gives (sampleFed p) (Handed Sample d) (left ++ drop room work)
+  unfolding sampleFed sampleIn sampleLent inWork
+  samples d e f g h =
+      let k : left ≡ sampleOut (byteAt p 0) (drop 3 p) (untouched room) = h ∙ ap (λ (x : List ℕ). sampleOut (byteAt p 0) x lent) f ∙ ap (sampleOut (byteAt p 0) (drop 3 p)) l in
+      let n : length left ≡ room = ap length k ∙ sample-kept (byteAt p 0) (drop 3 p) (untouched room) .same ∙ untouched-size room in
+      rw e (
+        ap (Handed Sample) (g ∙ ap (λ (x : List ℕ). sampleDone (byteAt p 0) x lent) f ∙ ap (sampleDone (byteAt p 0) (drop 3 p)) l),
+        work-after left work room n w ∙ ap (λ (x : List ℕ). over x fresh) k,
+      )
 
-    go : (t : Bool) → Kept lent (cond t (packedWith s (writeDone k (length lent))) (refusedWith (packNumber s (length id)) s) .written) (cond t (writeOut k lent) lent)
-    go true = inner (eqb (writeDone k (length lent) .number) 0) refl
-    go false = none-kept lent
+  pub lends : (tag : ℕ) (a : Answer) → roomAt p 0 ≡ Of room → rest ≡ drop 2 p → Gives (lentFed tag rest lent) a left → Gives (roomFed tag p) a (left ++ drop room work)
+  unfolding roomFed roomIn inWork
+  lends tag a e f g =
+      let t : lentFed tag rest lent ≡ lentFed tag (drop 2 p) (untouched room) = ap (λ (x : List ℕ). lentFed tag x lent) f ∙ ap (lentFed tag (drop 2 p)) l in
+      let h = gives-as _ _ a left t g in
+      let n : length left ≡ room = ap length (h .1) ∙ lent-in tag (drop 2 p) room .0 in
+      rw e (h .0, work-after left work room n w ∙ ap (λ (x : List ℕ). over x fresh) (h .1))
+
+  pub packs : (s : Session) (r : Packed) → roomAt p 0 ≡ Of room → rest ≡ drop 2 p → r ≡ packOf s rest (length lent) → left ≡ packOut s rest lent
+      → Does (packFed s p) (packed r) (left ++ drop room work)
+  unfolding packFed packIn
+  packs s r e f g h =
+      let k : left ≡ packOut s (drop 2 p) (untouched room) = h ∙ ap (λ (x : List ℕ). packOut s x lent) f ∙ ap (packOut s (drop 2 p)) l in
+      let n : length left ≡ room = ap length k ∙ pack-kept s (drop 2 p) (untouched room) .same ∙ untouched-size room in
+      let z : length lent ≡ room = ap length l ∙ untouched-size room in
+      rw e (
+        ap packed (g ∙ ap (λ (x : List ℕ). packOf s x (length lent)) f ∙ ap (packOf s (drop 2 p)) z),
+        work-after left work room n w ∙ ap (λ (x : List ℕ). over x fresh) k,
+      )

@@ -2,14 +2,10 @@
 use denote.Ref.{now}
 use Rattle.laws.proofs.Once.{OneResult, OneOutcome, one-value, one-pair}
 use Rattle.feed.proofs.open.Reads as open-reads
-use Rattle.feed.proofs.call.Reads as call-reads
 use Rattle.feed.proofs.next.Reads as next-reads
 
 pub open-unique : OneResult open-reads.Post
 open-unique κs a r r′ s s′ p q = one-value p q
-
-pub call-unique : OneOutcome call-reads.Post (λ κs s. now (s .1 .1 .1 .0))
-call-unique κs a r r′ s s′ p q = one-pair p q
 
 pub next-unique : OneOutcome next-reads.Post (λ κs s. now (s .1 .1 .0))
 next-unique κs a r r′ s s′ p q = one-pair p q

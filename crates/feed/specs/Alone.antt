@@ -1,10 +1,11 @@
 -- The calls that touch no session: tags 20h to 25h (FEED's table).
 use Prim.Native.Nat.{ℕ, _+_}
 use mathlib.Core.List.{List}
-use mathlib.Core.Bool.{Bool, false, cond, _&&_}
+use mathlib.Core.Bool.{cond}
 use lib.ListN.{length, drop}
-use lib.Dec.{leb, eqb}
+use lib.Dec.{leb, ltb, eqb}
 use Rattle.laws.specs.declared.Done.{Done}
+use Rattle.laws.specs.Calls.{over}
 use Rattle.records.specs.Records.{byteAt, pairAt}
 use Rattle.sampling.specs.Samples.{sampleDone, sampleOut}
 use Rattle.container.specs.Reading.{reading}
@@ -13,24 +14,50 @@ use Rattle.packet.specs.Writing as packet
 use Rattle.packet.specs.Reading.{readDone, readOut}
 use Rattle.flat.specs.Unflat.{unflat}
 use Rattle.report.specs.Report.{reported}
-use Rattle.feed.specs.Words.{sample, rewrite, wrap, unwrap, write}
-use Rattle.feed.specs.Lines.{Answer, badRecord, untouched, handed}
+use Rattle.answers.specs.declared.Cause.{Cause}
+use Rattle.answers.specs.declared.Cause.the-variants.{UnknownTag, TooShort, TooLong, RoomAbove, IdPresent, VideoValues, UnusedPlace}
+use Rattle.answers.specs.declared.Hand.the-variants.{Sample, Rewrite, Wrap, Unwrap, Write}
+use Rattle.feed.specs.declared.Room.{Room}
+use Rattle.feed.specs.declared.Room.the-variants.{Of, Not}
+use Rattle.answers.specs.declared.Answer.{Answer}
+use Rattle.answers.specs.declared.Answer.the-variants.{Handed, Reported, Bad}
+use Rattle.answers.specs.Lines.{untouched, fresh}
+
+-- what a call answers, and the buffer that it was lent as it leaves it
+pub record Reply : Type 0 where
+  pub answer : Answer
+  pub left : List ℕ
+
+abbrev pub reply : Answer → List ℕ → Reply
+reply a left = record { answer = a; left = left }
+
+-- the first bytes of the work buffer were lent
+unfoldable pub inWork : Reply → Reply
+inWork r = reply (r .answer) (over (r .left) fresh)
 
 -- a `u16 room` at a place of the payload: "`room` is at most 4,096"
-unfoldable pub hasRoom : List ℕ → ℕ → Bool
-hasRoom p at = leb (at + 2) (length p) && leb (pairAt p at) 4096
+unfoldable pub roomAt : List ℕ → ℕ → Room
+roomAt p at =
+    cond (leb (at + 2) (length p))
+    (cond (leb (pairAt p at) 4096)
+    (Of (pairAt p at))
+    (Not RoomAbove))
+    (Not TooShort)
 
--- 20h: "Line sampling by itself"
-unfoldable pub sampleAnswer : ℕ → List ℕ → List ℕ → Answer
-sampleAnswer format line lent = handed sample (sampleDone format line lent) (sampleOut format line lent)
+-- 20h: "Line sampling by itself"; "format, u16 room, the line's bytes"
+unfoldable pub sampleLent : ℕ → List ℕ → List ℕ → Reply
+sampleLent format line lent = reply (Handed Sample (sampleDone format line lent)) (sampleOut format line lent)
 
--- "format, u16 room, the line's bytes"
-unfoldable pub sampleFed : List ℕ → Answer
-sampleFed p = cond (hasRoom p 1) (sampleAnswer (byteAt p 0) (drop 3 p) (untouched (pairAt p 1))) badRecord
+unfoldable pub sampleIn : List ℕ → Room → Reply
+sampleIn p (Of room) = inWork (sampleLent (byteAt p 0) (drop 3 p) (untouched room))
+sampleIn p (Not cause) = reply (Bad cause) fresh
+
+unfoldable pub sampleFed : List ℕ → Reply
+sampleFed p = sampleIn p (roomAt p 1)
 
 -- 21h: "the line of document 01's program"
-unfoldable pub readFed : List ℕ → Answer
-readFed p = record { line = reported (reading p); stop = false }
+unfoldable pub readFed : List ℕ → Reply
+readFed p = reply (Reported (length (reported (reading p)))) (over (reported (reading p)) fresh)
 
 -- 22h: "Read container, then Write of what was read"; "where the reading is refused, N is its number and nothing is written"
 unfoldable pub rewriteDone : List ℕ → ℕ → Done
@@ -40,39 +67,42 @@ rewriteDone bytes room =
 unfoldable pub rewriteOut : List ℕ → List ℕ → List ℕ
 rewriteOut bytes lent = cond (eqb (reading bytes .number) 0) (container.writeOut (reading bytes .contents) lent) lent
 
-unfoldable pub rewriteAnswer : List ℕ → List ℕ → Answer
-rewriteAnswer bytes lent = handed rewrite (rewriteDone bytes (length lent)) (rewriteOut bytes lent)
+-- 25h: "Write" of flat contents; bytes that are no contents are a bad record, by its first fault from the left
+unfoldable pub flatCause : List ℕ → Cause
+flatCause bytes =
+    cond (ltb (length bytes) 283) TooShort
+    (cond (ltb 283 (length bytes)) TooLong
+    (cond (ltb 1 (byteAt bytes 2)) IdPresent
+    (cond (ltb 2 (byteAt bytes 23)) VideoValues
+    UnusedPlace)))
 
--- 23h: "Write packet"
-unfoldable pub wrapAnswer : List ℕ → List ℕ → Answer
-wrapAnswer bytes lent = handed wrap (packet.writeDone bytes (length lent)) (packet.writeOut bytes lent)
-
--- 24h: "Read packet"
-unfoldable pub unwrapAnswer : List ℕ → List ℕ → Answer
-unwrapAnswer words lent = handed unwrap (readDone words (length lent)) (readOut words lent)
-
--- 25h: "Write" of flat contents; bytes that are no contents are a bad record
-unfoldable pub writeAnswer : List ℕ → List ℕ → Answer
-writeAnswer bytes lent =
+unfoldable pub writeLent : List ℕ → List ℕ → Reply
+writeLent bytes lent =
     cond (unflat bytes .ok)
-    (handed write (container.writeDone (unflat bytes .contents) (length lent)) (container.writeOut (unflat bytes .contents) lent))
-    badRecord
+    (reply (Handed Write (container.writeDone (unflat bytes .contents) (length lent))) (container.writeOut (unflat bytes .contents) lent))
+    (reply (Bad (flatCause bytes)) lent)
 
--- the calls from 22h on, with what follows the room and the buffer lent; "a record with another tag" is bad
-unfoldable pub lentAnswer : ℕ → List ℕ → List ℕ → Answer
-lentAnswer tag rest lent =
-    cond (eqb tag 0x22) (rewriteAnswer rest lent)
-    (cond (eqb tag 0x23) (wrapAnswer rest lent)
-    (cond (eqb tag 0x24) (unwrapAnswer rest lent)
-    (cond (eqb tag 0x25) (writeAnswer rest lent)
-    badRecord)))
+-- the calls from 22h on, with what follows the room and the buffer lent; 23h: "Write packet"; 24h: "Read packet"
+unfoldable pub lentFed : ℕ → List ℕ → List ℕ → Reply
+lentFed tag rest lent =
+    cond (eqb tag 0x22) (reply (Handed Rewrite (rewriteDone rest (length lent))) (rewriteOut rest lent))
+    (cond (eqb tag 0x23) (reply (Handed Wrap (packet.writeDone rest (length lent))) (packet.writeOut rest lent))
+    (cond (eqb tag 0x24) (reply (Handed Unwrap (readDone rest (length lent))) (readOut rest lent))
+    (cond (eqb tag 0x25) (writeLent rest lent)
+    (reply (Bad (UnknownTag tag)) lent))))
 
 -- "u16 room", then what the call is given
-unfoldable pub roomFed : ℕ → List ℕ → Answer
-roomFed tag p = cond (hasRoom p 0) (lentAnswer tag (drop 2 p) (untouched (pairAt p 0))) badRecord
+unfoldable pub roomIn : ℕ → List ℕ → Room → Reply
+roomIn tag p (Of room) = inWork (lentFed tag (drop 2 p) (untouched room))
+roomIn tag p (Not cause) = reply (Bad cause) fresh
 
-unfoldable pub aloneFed : ℕ → List ℕ → Answer
+unfoldable pub roomFed : ℕ → List ℕ → Reply
+roomFed tag p = roomIn tag p (roomAt p 0)
+
+-- "A record with another tag" is bad whatever its payload
+unfoldable pub aloneFed : ℕ → List ℕ → Reply
 aloneFed tag p =
     cond (eqb tag 0x20) (sampleFed p)
     (cond (eqb tag 0x21) (readFed p)
-    (roomFed tag p))
+    (cond (ltb 0x25 tag) (reply (Bad (UnknownTag tag)) fresh)
+    (roomFed tag p)))

@@ -1,14 +1,12 @@
 -- The calls on a session: tags 10h to 15h (FEED's table).
 use Prim.Native.Nat.{ℕ}
-use mathlib.Core.List.{List, [], _++_}
+use mathlib.Core.List.{List}
 use mathlib.Core.Bool.{cond}
 use lib.ListN.{length, drop}
 use lib.Dec.{leb, eqb}
 use Rattle.laws.specs.declared.Done.{Done}
+use Rattle.laws.specs.Calls.{over}
 use Rattle.records.specs.Records.{byteAt, pairAt}
-use Rattle.report.specs.Report.{item}
-use Rattle.picture.specs.declared.Told.{Told}
-use Rattle.picture.specs.declared.Told.the-variants.{Open, Nothing, Print}
 use Rattle.session.specs.declared.Session.{Session}
 use Rattle.session.specs.declared.Begun.{Begun}
 use Rattle.session.specs.declared.Lined.{Lined}
@@ -16,79 +14,81 @@ use Rattle.session.specs.declared.Sounded.{Sounded}
 use Rattle.session.specs.declared.Packed.{Packed}
 use Rattle.session.specs.Session.{setupOf, lineOf, soundOf, videoRestarted, audioRestarted}
 use Rattle.session.specs.Packing.{packOf, packOut}
-use Rattle.feed.specs.declared.Fed.{Fed}
-use Rattle.feed.specs.Words.{setup, line, sound, pack, field, fieldNone, videoRestart, audioRestart}
-use Rattle.feed.specs.Lines.{Answer, saidOf, prints, badRecord, numbered, untouched, handed}
-use Rattle.feed.specs.Alone.{hasRoom}
+use Rattle.answers.specs.declared.Cause.{Cause}
+use Rattle.answers.specs.declared.Cause.the-variants.{UnknownTag, TooShort, TooLong}
+use Rattle.answers.specs.declared.Hand.the-variants.{Pack}
+use Rattle.feed.specs.declared.Room.{Room}
+use Rattle.feed.specs.declared.Room.the-variants.{Of, Not}
+use Rattle.answers.specs.declared.Answer.{Answer}
+use Rattle.answers.specs.declared.Answer.the-variants.{Setup, Line, Sound, VideoRestart, AudioRestart, Handed, Bad}
+use Rattle.feed.specs.declared.Answered.{Answered}
+use Rattle.answers.specs.Lines.{untouched, fresh}
+use Rattle.feed.specs.Alone.{roomAt}
 
--- what a record does: what is printed, and the session that later calls use
+-- what a record does: its answer with the session that later calls use, and the work buffer as it leaves it
 pub record Step : Type 0 where
-  pub answer : Answer
-  pub session : Session
+  pub answered : Answered
+  pub left : List ℕ
 
-unfoldable pub fedOf : Step → Fed
-fedOf t = record { said = saidOf (t .answer); session = t .session }
+abbrev pub answers : Answer → Session → Answered
+answers a s = record { answer = a; session = s }
 
-abbrev pub step : Answer → Session → Step
-step a s = record { answer = a; session = s }
+abbrev pub step : Answered → List ℕ → Step
+step a left = record { answered = a; left = left }
 
--- ---- what each call's answer prints, and the session that it hands on
+-- a bad record leaves the session as it is
+abbrev pub badFed : Session → Cause → Answered
+badFed s cause = answers (Bad cause) s
 
-unfoldable pub begun : Begun → Step
-begun b = step (numbered setup (b .number)) (b .session)
+-- ---- what each call's answer tells, and the session that it hands on
 
--- "where the line ended a field ` field F` (its fingerprint) or ` field none`"
-unfoldable pub toldText : Told → List ℕ
-toldText Open = []
-toldText Nothing = fieldNone
-toldText (Print f) = item field f
+unfoldable pub begun : Begun → Answered
+begun b = answers (Setup (b .number)) (b .session)
 
-unfoldable pub lineAnswer : ℕ → Told → Answer
-lineAnswer number told = prints (item line number ++ toldText told)
+unfoldable pub lined : Lined → Answered
+lined l = answers (Line (l .number) (l .told)) (l .session)
 
-unfoldable pub lined : Lined → Step
-lined l = step (lineAnswer (l .number) (l .told)) (l .session)
-
-unfoldable pub sounded : Sounded → Step
-sounded h = step (numbered sound (h .number)) (h .session)
+unfoldable pub sounded : Sounded → Answered
+sounded h = answers (Sound (h .number)) (h .session)
 
 unfoldable pub doneOf : Packed → Done
 doneOf p = record { number = p .number; written = p .written }
 
-unfoldable pub packed : Packed → List ℕ → Step
-packed p left = step (handed pack (doneOf p) left) (p .session)
+unfoldable pub packed : Packed → Answered
+packed p = answers (Handed Pack (doneOf p)) (p .session)
 
 -- ---- the records
 
 -- 10h: "format, rate code, then the mix types (0 or more bytes)"
-unfoldable pub setupFed : Session → List ℕ → Step
-setupFed s p = cond (leb 2 (length p)) (begun (setupOf (byteAt p 0) (byteAt p 1) (drop 2 p))) (step badRecord s)
+unfoldable pub setupFed : Session → List ℕ → Answered
+setupFed s p = cond (leb 2 (length p)) (begun (setupOf (byteAt p 0) (byteAt p 1) (drop 2 p))) (badFed s TooShort)
 
 -- 11h: "u16 line number, the line's bytes"
-unfoldable pub lineFed : Session → List ℕ → Step
-lineFed s p = cond (leb 2 (length p)) (lined (lineOf s (pairAt p 0) (drop 2 p))) (step badRecord s)
+unfoldable pub lineFed : Session → List ℕ → Answered
+lineFed s p = cond (leb 2 (length p)) (lined (lineOf s (pairAt p 0) (drop 2 p))) (badFed s TooShort)
 
 -- 12h: "fingerprint number, the block's bytes"
-unfoldable pub soundFed : Session → List ℕ → Step
-soundFed s p = cond (leb 1 (length p)) (sounded (soundOf s (byteAt p 0) (drop 1 p))) (step badRecord s)
+unfoldable pub soundFed : Session → List ℕ → Answered
+soundFed s p = cond (leb 1 (length p)) (sounded (soundOf s (byteAt p 0) (drop 1 p))) (badFed s TooShort)
 
 -- 13h: "u16 room, the ID's bytes"; "Pack into a buffer of `room` bytes"
-unfoldable pub packInto : Session → List ℕ → List ℕ → Step
-packInto s id lent = packed (packOf s id (length lent)) (packOut s id lent)
+unfoldable pub packIn : Session → List ℕ → Room → Step
+packIn s p (Of room) = step (packed (packOf s (drop 2 p) room)) (over (packOut s (drop 2 p) (untouched room)) fresh)
+packIn s p (Not cause) = step (badFed s cause) fresh
 
 unfoldable pub packFed : Session → List ℕ → Step
-packFed s p = cond (hasRoom p 0) (packInto s (drop 2 p) (untouched (pairAt p 0))) (step badRecord s)
+packFed s p = packIn s p (roomAt p 0)
 
 -- 14h, 15h: "nothing"; the session goes on as the restart leaves it
-unfoldable pub restartFed : Session → Session → List ℕ → List ℕ → Step
-restartFed s next word p = cond (eqb (length p) 0) (step (prints word) next) (step badRecord s)
+unfoldable pub restartFed : Session → Session → Answer → List ℕ → Answered
+restartFed s next answer p = cond (eqb (length p) 0) (answers answer next) (badFed s TooLong)
 
 unfoldable pub sessionFed : Session → ℕ → List ℕ → Step
 sessionFed s tag p =
-    cond (eqb tag 0x10) (setupFed s p)
-    (cond (eqb tag 0x11) (lineFed s p)
-    (cond (eqb tag 0x12) (soundFed s p)
+    cond (eqb tag 0x10) (step (setupFed s p) fresh)
+    (cond (eqb tag 0x11) (step (lineFed s p) fresh)
+    (cond (eqb tag 0x12) (step (soundFed s p) fresh)
     (cond (eqb tag 0x13) (packFed s p)
-    (cond (eqb tag 0x14) (restartFed s (videoRestarted s) videoRestart p)
-    (cond (eqb tag 0x15) (restartFed s (audioRestarted s) audioRestart p)
-    (step badRecord s))))))
+    (cond (eqb tag 0x14) (step (restartFed s (videoRestarted s) VideoRestart p) fresh)
+    (cond (eqb tag 0x15) (step (restartFed s (audioRestarted s) AudioRestart p) fresh)
+    (step (badFed s (UnknownTag tag)) fresh))))))

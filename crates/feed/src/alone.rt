@@ -1,44 +1,56 @@
-// The calls that touch no session: tags 20h to 25h. A call with a room is lent the first bytes of a work buffer that is filled with A5h.
+// The calls that touch no session: tags 20h to 25h. A call with a room is lent the first bytes of the work buffer.
 ghost use mathlib.Core.Path.{_≡_};
-ghost use mathlib.Core.Bool.{true};
 ghost use Prim.Native.Nat.{_≤_};
 ghost use lib.ListN.{length};
-ghost use lib.Seq.{sets};
-ghost use Rattle.feed.specs.Lines.{saidOf, untouched, isUntouched};
-ghost use Rattle.feed.specs.Alone.{hasRoom, sampleAnswer, sampleFed, readFed, rewriteDone, rewriteOut, rewriteAnswer, wrapAnswer, unwrapAnswer, writeAnswer, lentAnswer, roomFed, aloneFed};
-use crate::Said;
-use crate::pieces::say_bad;
-use crate::pieces::say_handed;
+ghost use Rattle.answers.specs.Lines.{fresh};
+ghost use Rattle.feed.specs.Alone.{roomAt, sampleFed, readFed, rewriteDone, rewriteOut, flatCause, writeLent, lentFed, roomFed, aloneFed};
+use crate::Room;
+use answers::Answer;
+use answers::Cause;
+use answers::Hand;
 use laws::Done;
 
-// Whether a room of at most 4,096 stands at a place.
-pub(crate) fn has_room(payload: &[u8], at: usize) -> bool
+// The room at a place of the payload.
+pub(crate) fn room_at(payload: &[u8], at: usize) -> Room
     requires { ⌜ at ≤ 1 ⌝ }
-    ensures { λ r. ⌜ r ≡ hasRoom (now (payload .entry)) at ⌝ }
+    ensures { λ r. ⌜ r ≡ roomAt (now (payload .entry)) at ⌝ }
 {
     if payload.len() < at + 2 {
-        return false;
+        return Room::Not(Cause::TooShort);
     }
-    records::pair_at(payload, at) <= 4096
-}
-
-pub(crate) fn work() -> [u8; 4096]
-    ensures { λ r. ⌜ r ≡ untouched 4096 ⌝ }
-{
-    [0xa5; 4096]
+    let room = records::pair_at(payload, at);
+    if room <= 4096 {
+        return Room::Of(room);
+    }
+    Room::Not(Cause::RoomAbove)
 }
 
 // Line sampling by itself.
-fn sample(format: u8, line: &[u8], lent: &mut [u8], out: &mut [u8]) -> Said
-    requires { ⌜ (length (now lent) ≤ 4096) × (isUntouched (now lent) ≡ true) ⌝ }
-    ensures { λ r. ⌜ (r ≡ saidOf (sampleAnswer format (now (line .entry)) (now (lent .entry)))) × (now (out .exit) ≡ sets (now (out .entry)) 0 (sampleAnswer format (now (line .entry)) (now (lent .entry)) .line)) ⌝ }
+fn sample(payload: &[u8], work: &mut [u8]) -> Answer
+    requires { ⌜ now work ≡ fresh ⌝ }
+    ensures { λ r. ⌜ (r ≡ sampleFed (now (payload .entry)) .answer) × (now (work .exit) ≡ sampleFed (now (payload .entry)) .left) ⌝ }
 {
-    let done = sampling::sample_line(format, line, lent);
-    say_handed(b"sample ", done, lent, out)
+    let asked = room_at(payload, 1);
+    match asked {
+        Room::Not(cause) => Answer::Bad(cause),
+        Room::Of(room) => {
+            let done = sampling::sample_line(payload[0], &payload[3..], &mut work[..room]);
+            Answer::Handed(Hand::Sample, done)
+        }
+    }
+}
+
+// The line of document 01's program.
+fn read(payload: &[u8], work: &mut [u8]) -> Answer
+    requires { ⌜ now work ≡ fresh ⌝ }
+    ensures { λ r. ⌜ (r ≡ readFed (now (payload .entry)) .answer) × (now (work .exit) ≡ readFed (now (payload .entry)) .left) ⌝ }
+{
+    let size = report::report(payload, work);
+    Answer::Reported(size)
 }
 
 // Writes what was read; where the reading is refused, the number is its own.
-fn write_again(bytes: &[u8], lent: &mut [u8]) -> Done
+fn rewrite(bytes: &[u8], lent: &mut [u8]) -> Done
     ensures { λ r. ⌜ (r ≡ rewriteDone (now (bytes .entry)) (length (now (lent .entry)))) × (now (lent .exit) ≡ rewriteOut (now (bytes .entry)) (now (lent .entry))) ⌝ }
 {
     let r = container::read_container(bytes);
@@ -50,105 +62,84 @@ fn write_again(bytes: &[u8], lent: &mut [u8]) -> Done
     Done { number, written: 0 }
 }
 
-// Read container, then Write of what was read.
-fn rewrite(bytes: &[u8], lent: &mut [u8], out: &mut [u8]) -> Said
-    requires { ⌜ (length (now lent) ≤ 4096) × (isUntouched (now lent) ≡ true) ⌝ }
-    ensures { λ r. ⌜ (r ≡ saidOf (rewriteAnswer (now (bytes .entry)) (now (lent .entry)))) × (now (out .exit) ≡ sets (now (out .entry)) 0 (rewriteAnswer (now (bytes .entry)) (now (lent .entry)) .line)) ⌝ }
+// Why bytes are no flat contents.
+fn flat_cause(bytes: &[u8]) -> Cause
+    ensures { λ r. ⌜ r ≡ flatCause (now (bytes .entry)) ⌝ }
 {
-    let done = write_again(bytes, lent);
-    say_handed(b"rewrite ", done, lent, out)
-}
-
-// Write packet.
-fn wrap(bytes: &[u8], lent: &mut [u8], out: &mut [u8]) -> Said
-    requires { ⌜ (length (now lent) ≤ 4096) × (isUntouched (now lent) ≡ true) ⌝ }
-    ensures { λ r. ⌜ (r ≡ saidOf (wrapAnswer (now (bytes .entry)) (now (lent .entry)))) × (now (out .exit) ≡ sets (now (out .entry)) 0 (wrapAnswer (now (bytes .entry)) (now (lent .entry)) .line)) ⌝ }
-{
-    let done = packet::write_packet(bytes, lent);
-    say_handed(b"wrap ", done, lent, out)
-}
-
-// Read packet.
-fn unwrap(words: &[u8], lent: &mut [u8], out: &mut [u8]) -> Said
-    requires { ⌜ (length (now lent) ≤ 4096) × (isUntouched (now lent) ≡ true) ⌝ }
-    ensures { λ r. ⌜ (r ≡ saidOf (unwrapAnswer (now (words .entry)) (now (lent .entry)))) × (now (out .exit) ≡ sets (now (out .entry)) 0 (unwrapAnswer (now (words .entry)) (now (lent .entry)) .line)) ⌝ }
-{
-    let done = packet::read_packet(words, lent);
-    say_handed(b"unwrap ", done, lent, out)
+    if bytes.len() < 283 {
+        return Cause::TooShort;
+    }
+    if 283 < bytes.len() {
+        return Cause::TooLong;
+    }
+    if 1 < bytes[2] {
+        return Cause::IdPresent;
+    }
+    if 2 < bytes[23] {
+        return Cause::VideoValues;
+    }
+    Cause::UnusedPlace
 }
 
 // Write of flat contents; bytes that are no contents are a bad record.
-fn write(bytes: &[u8], lent: &mut [u8], out: &mut [u8]) -> Said
-    requires { ⌜ (length (now lent) ≤ 4096) × (isUntouched (now lent) ≡ true) ⌝ }
-    ensures { λ r. ⌜ (r ≡ saidOf (writeAnswer (now (bytes .entry)) (now (lent .entry)))) × (now (out .exit) ≡ sets (now (out .entry)) 0 (writeAnswer (now (bytes .entry)) (now (lent .entry)) .line)) ⌝ }
+fn write(bytes: &[u8], lent: &mut [u8]) -> Answer
+    ensures { λ r. ⌜ (r ≡ writeLent (now (bytes .entry)) (now (lent .entry)) .answer) × (now (lent .exit) ≡ writeLent (now (bytes .entry)) (now (lent .entry)) .left) ⌝ }
 {
     let u = flat::unflatten(bytes);
     let ok = u.ok;
     if !ok {
-        return say_bad(out);
+        return Answer::Bad(flat_cause(bytes));
     }
     let contents = u.contents;
     let done = container::write_container(contents, lent);
-    say_handed(b"write ", done, lent, out)
+    Answer::Handed(Hand::Write, done)
 }
 
 // The calls from 22h on, with what follows the room.
-fn lend(tag: u8, rest: &[u8], lent: &mut [u8], out: &mut [u8]) -> Said
-    requires { ⌜ (length (now lent) ≤ 4096) × (isUntouched (now lent) ≡ true) ⌝ }
-    ensures { λ r. ⌜ (r ≡ saidOf (lentAnswer tag (now (rest .entry)) (now (lent .entry)))) × (now (out .exit) ≡ sets (now (out .entry)) 0 (lentAnswer tag (now (rest .entry)) (now (lent .entry)) .line)) ⌝ }
+fn lend(tag: u8, rest: &[u8], lent: &mut [u8]) -> Answer
+    ensures { λ r. ⌜ (r ≡ lentFed tag (now (rest .entry)) (now (lent .entry)) .answer) × (now (lent .exit) ≡ lentFed tag (now (rest .entry)) (now (lent .entry)) .left) ⌝ }
 {
     if tag == 0x22 {
-        return rewrite(rest, lent, out);
+        let done = rewrite(rest, lent);
+        return Answer::Handed(Hand::Rewrite, done);
     }
     if tag == 0x23 {
-        return wrap(rest, lent, out);
+        let done = packet::write_packet(rest, lent);
+        return Answer::Handed(Hand::Wrap, done);
     }
     if tag == 0x24 {
-        return unwrap(rest, lent, out);
+        let done = packet::read_packet(rest, lent);
+        return Answer::Handed(Hand::Unwrap, done);
     }
     if tag == 0x25 {
-        return write(rest, lent, out);
+        return write(rest, lent);
     }
-    say_bad(out)
+    Answer::Bad(Cause::UnknownTag(tag))
 }
 
-fn sample_record(payload: &[u8], out: &mut [u8]) -> Said
-    ensures { λ r. ⌜ (r ≡ saidOf (sampleFed (now (payload .entry)))) × (now (out .exit) ≡ sets (now (out .entry)) 0 (sampleFed (now (payload .entry)) .line)) ⌝ }
+fn in_room(tag: u8, payload: &[u8], work: &mut [u8]) -> Answer
+    requires { ⌜ now work ≡ fresh ⌝ }
+    ensures { λ r. ⌜ (r ≡ roomFed tag (now (payload .entry)) .answer) × (now (work .exit) ≡ roomFed tag (now (payload .entry)) .left) ⌝ }
 {
-    if !has_room(payload, 1) {
-        return say_bad(out);
+    let asked = room_at(payload, 0);
+    match asked {
+        Room::Not(cause) => Answer::Bad(cause),
+        Room::Of(room) => lend(tag, &payload[2..], &mut work[..room]),
     }
-    let room = records::pair_at(payload, 1);
-    let mut lent = work();
-    sample(payload[0], &payload[3..], &mut lent[..room], out)
 }
 
-fn read_record(payload: &[u8], out: &mut [u8]) -> Said
-    ensures { λ r. ⌜ (r ≡ saidOf (readFed (now (payload .entry)))) × (now (out .exit) ≡ sets (now (out .entry)) 0 (readFed (now (payload .entry)) .line)) ⌝ }
-{
-    let size = report::report(payload, out);
-    Said { size, stop: false }
-}
-
-fn room_record(tag: u8, payload: &[u8], out: &mut [u8]) -> Said
-    ensures { λ r. ⌜ (r ≡ saidOf (roomFed tag (now (payload .entry)))) × (now (out .exit) ≡ sets (now (out .entry)) 0 (roomFed tag (now (payload .entry)) .line)) ⌝ }
-{
-    if !has_room(payload, 0) {
-        return say_bad(out);
-    }
-    let room = records::pair_at(payload, 0);
-    let mut lent = work();
-    lend(tag, &payload[2..], &mut lent[..room], out)
-}
-
-pub(crate) fn alone(tag: u8, payload: &[u8], out: &mut [u8]) -> Said
-    ensures { λ r. ⌜ (r ≡ saidOf (aloneFed tag (now (payload .entry)))) × (now (out .exit) ≡ sets (now (out .entry)) 0 (aloneFed tag (now (payload .entry)) .line)) ⌝ }
+pub(crate) fn alone(tag: u8, payload: &[u8], work: &mut [u8]) -> Answer
+    requires { ⌜ now work ≡ fresh ⌝ }
+    ensures { λ r. ⌜ (r ≡ aloneFed tag (now (payload .entry)) .answer) × (now (work .exit) ≡ aloneFed tag (now (payload .entry)) .left) ⌝ }
 {
     if tag == 0x20 {
-        return sample_record(payload, out);
+        return sample(payload, work);
     }
     if tag == 0x21 {
-        return read_record(payload, out);
+        return read(payload, work);
     }
-    room_record(tag, payload, out)
+    if 0x25 < tag {
+        return Answer::Bad(Cause::UnknownTag(tag));
+    }
+    in_room(tag, payload, work)
 }

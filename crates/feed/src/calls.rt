@@ -1,164 +1,126 @@
 // The calls on a session: tags 10h to 15h.
 ghost use mathlib.Core.Path.{_≡_};
-ghost use mathlib.Core.Bool.{true};
-ghost use Prim.Native.Nat.{_+_, _≤_};
-ghost use lib.ListN.{length};
-ghost use lib.Seq.{sets};
-ghost use Rattle.feed.specs.Lines.{saidOf, badRecord, isUntouched};
-ghost use Rattle.feed.specs.Calls.{fedOf, step, toldText, lineAnswer, setupFed, lineFed, soundFed, packInto, packFed, restartFed, sessionFed};
-use crate::Fed;
-use crate::Said;
-use crate::alone::has_room;
-use crate::alone::work;
-use crate::pieces::end_line;
-use crate::pieces::put;
-use crate::pieces::put_item;
-use crate::pieces::say;
-use crate::pieces::say_bad;
-use crate::pieces::say_handed;
-use crate::pieces::say_number;
+ghost use Rattle.answers.specs.Lines.{fresh};
+ghost use Rattle.feed.specs.Calls.{badFed, setupFed, lineFed, soundFed, packFed, restartFed, sessionFed};
+use crate::Answered;
+use crate::Room;
+use crate::alone::room_at;
+use answers::Answer;
+use answers::Cause;
+use answers::Hand;
 use laws::Done;
-use picture::Told;
 use session::Session;
 
-pub(crate) fn bad(s: Session, out: &mut [u8]) -> Fed
-    ensures { λ r. ⌜ (r ≡ fedOf (step badRecord s)) × (now (out .exit) ≡ sets (now (out .entry)) 0 (badRecord .line)) ⌝ }
+pub(crate) fn bad(s: Session, cause: Cause) -> Answered
+    ensures { λ r. ⌜ r ≡ badFed s cause ⌝ }
 {
-    let said = say_bad(out);
-    Fed { said, session: s }
+    Answered {
+        answer: Answer::Bad(cause),
+        session: s,
+    }
 }
 
-fn setup(s: Session, payload: &[u8], out: &mut [u8]) -> Fed
-    ensures { λ r. ⌜ (r ≡ fedOf (setupFed s (now (payload .entry)))) × (now (out .exit) ≡ sets (now (out .entry)) 0 (setupFed s (now (payload .entry)) .answer .line)) ⌝ }
+fn setup(s: Session, payload: &[u8]) -> Answered
+    ensures { λ r. ⌜ r ≡ setupFed s (now (payload .entry)) ⌝ }
 {
     if payload.len() < 2 {
-        return bad(s, out);
+        return bad(s, Cause::TooShort);
     }
     let b = session::setup(payload[0], payload[1], &payload[2..]);
     let next = b.session;
-    let said = say_number(b"setup ", b.number, out);
-    Fed {
-        said,
+    Answered {
+        answer: Answer::Setup(b.number),
         session: next,
     }
 }
 
-// What a line that ends a field tells.
-fn put_told(told: Told, out: &mut [u8], at: usize) -> usize
-    requires { ⌜ at ≤ 64 ⌝ }
-    ensures { λ r. ⌜ (r ≡ at + length (toldText told)) × (now (out .exit) ≡ sets (now (out .entry)) at (toldText told)) ⌝ }
-{
-    match told {
-        Told::Open => at,
-        Told::Nothing => put(b" field none", out, at),
-        Told::Print(f) => put_item(b" field ", f, out, at),
-    }
-}
-
-fn say_line(number: u8, told: Told, out: &mut [u8]) -> Said
-    ensures { λ r. ⌜ (r ≡ saidOf (lineAnswer number told)) × (now (out .exit) ≡ sets (now (out .entry)) 0 (lineAnswer number told .line)) ⌝ }
-{
-    let p = put_item(b"line ", number, out, 0);
-    let q = put_told(told, out, p);
-    end_line(out, q)
-}
-
-fn line(s: Session, payload: &[u8], out: &mut [u8]) -> Fed
-    ensures { λ r. ⌜ (r ≡ fedOf (lineFed s (now (payload .entry)))) × (now (out .exit) ≡ sets (now (out .entry)) 0 (lineFed s (now (payload .entry)) .answer .line)) ⌝ }
+fn line(s: Session, payload: &[u8]) -> Answered
+    ensures { λ r. ⌜ r ≡ lineFed s (now (payload .entry)) ⌝ }
 {
     if payload.len() < 2 {
-        return bad(s, out);
+        return bad(s, Cause::TooShort);
     }
     let l = session::line(s, records::pair_at(payload, 0), &payload[2..]);
     let told = l.told;
     let next = l.session;
-    let said = say_line(l.number, told, out);
-    Fed {
-        said,
+    Answered {
+        answer: Answer::Line(l.number, told),
         session: next,
     }
 }
 
-fn sound(s: Session, payload: &[u8], out: &mut [u8]) -> Fed
-    ensures { λ r. ⌜ (r ≡ fedOf (soundFed s (now (payload .entry)))) × (now (out .exit) ≡ sets (now (out .entry)) 0 (soundFed s (now (payload .entry)) .answer .line)) ⌝ }
+fn sound(s: Session, payload: &[u8]) -> Answered
+    ensures { λ r. ⌜ r ≡ soundFed s (now (payload .entry)) ⌝ }
 {
     if payload.len() < 1 {
-        return bad(s, out);
+        return bad(s, Cause::TooShort);
     }
     let h = session::sound(s, payload[0] as usize, &payload[1..]);
     let next = h.session;
-    let said = say_number(b"sound ", h.number, out);
-    Fed {
-        said,
+    Answered {
+        answer: Answer::Sound(h.number),
         session: next,
     }
 }
 
-fn pack_into(s: Session, id: &[u8], lent: &mut [u8], out: &mut [u8]) -> Fed
-    requires { ⌜ (length (now lent) ≤ 4096) × (isUntouched (now lent) ≡ true) ⌝ }
-    ensures { λ r. ⌜ (r ≡ fedOf (packInto s (now (id .entry)) (now (lent .entry)))) × (now (out .exit) ≡ sets (now (out .entry)) 0 (packInto s (now (id .entry)) (now (lent .entry)) .answer .line)) ⌝ }
+fn pack(s: Session, payload: &[u8], work: &mut [u8]) -> Answered
+    requires { ⌜ now work ≡ fresh ⌝ }
+    ensures { λ r. ⌜ (r ≡ packFed s (now (payload .entry)) .answered) × (now (work .exit) ≡ packFed s (now (payload .entry)) .left) ⌝ }
 {
-    let p = session::pack(s, id, lent);
-    let next = p.session;
-    let done = Done {
-        number: p.number,
-        written: p.written,
-    };
-    let said = say_handed(b"pack ", done, lent, out);
-    Fed {
-        said,
-        session: next,
+    let asked = room_at(payload, 0);
+    match asked {
+        Room::Not(cause) => bad(s, cause),
+        Room::Of(room) => {
+            let p = session::pack(s, &payload[2..], &mut work[..room]);
+            let next = p.session;
+            let done = Done {
+                number: p.number,
+                written: p.written,
+            };
+            Answered {
+                answer: Answer::Handed(Hand::Pack, done),
+                session: next,
+            }
+        }
     }
-}
-
-fn pack(s: Session, payload: &[u8], out: &mut [u8]) -> Fed
-    ensures { λ r. ⌜ (r ≡ fedOf (packFed s (now (payload .entry)))) × (now (out .exit) ≡ sets (now (out .entry)) 0 (packFed s (now (payload .entry)) .answer .line)) ⌝ }
-{
-    if !has_room(payload, 0) {
-        return bad(s, out);
-    }
-    let room = records::pair_at(payload, 0);
-    let mut lent = work();
-    pack_into(s, &payload[2..], &mut lent[..room], out)
 }
 
 // A restart has no payload.
-fn restart(s: Session, next: Session, word: &[u8], payload: &[u8], out: &mut [u8]) -> Fed
-    requires { ⌜ length (now word) ≤ 16 ⌝ }
-    ensures { λ r. ⌜ (r ≡ fedOf (restartFed s next (now (word .entry)) (now (payload .entry)))) × (now (out .exit) ≡ sets (now (out .entry)) 0 (restartFed s next (now (word .entry)) (now (payload .entry)) .answer .line)) ⌝ }
+fn restart(s: Session, next: Session, answer: Answer, payload: &[u8]) -> Answered
+    ensures { λ r. ⌜ r ≡ restartFed s next answer (now (payload .entry)) ⌝ }
 {
     if payload.len() != 0 {
-        return bad(s, out);
+        return bad(s, Cause::TooLong);
     }
-    let said = say(word, out);
-    Fed {
-        said,
+    Answered {
+        answer,
         session: next,
     }
 }
 
-pub(crate) fn on_session(s: Session, tag: u8, payload: &[u8], out: &mut [u8]) -> Fed
-    ensures { λ r. ⌜ (r ≡ fedOf (sessionFed s tag (now (payload .entry)))) × (now (out .exit) ≡ sets (now (out .entry)) 0 (sessionFed s tag (now (payload .entry)) .answer .line)) ⌝ }
+pub(crate) fn on_session(s: Session, tag: u8, payload: &[u8], work: &mut [u8]) -> Answered
+    requires { ⌜ now work ≡ fresh ⌝ }
+    ensures { λ r. ⌜ (r ≡ sessionFed s tag (now (payload .entry)) .answered) × (now (work .exit) ≡ sessionFed s tag (now (payload .entry)) .left) ⌝ }
 {
     if tag == 0x10 {
-        return setup(s, payload, out);
+        return setup(s, payload);
     }
     if tag == 0x11 {
-        return line(s, payload, out);
+        return line(s, payload);
     }
     if tag == 0x12 {
-        return sound(s, payload, out);
+        return sound(s, payload);
     }
     if tag == 0x13 {
-        return pack(s, payload, out);
+        return pack(s, payload, work);
     }
     if tag == 0x14 {
         let next = session::video_restart(s);
-        return restart(s, next, b"video restart", payload, out);
+        return restart(s, next, Answer::VideoRestart, payload);
     }
     if tag == 0x15 {
         let next = session::audio_restart(s);
-        return restart(s, next, b"audio restart", payload, out);
+        return restart(s, next, Answer::AudioRestart, payload);
     }
-    bad(s, out)
+    bad(s, Cause::UnknownTag(tag))
 }

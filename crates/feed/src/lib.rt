@@ -1,24 +1,31 @@
-// The feed that the program `card` reads (FEED): for each record the call that it asks for, and the line that is printed.
+// The feed that the program `card` reads (FEED): each record is answered by value, and one function says an answer as the line that is printed.
 ghost use mathlib.Core.Path.{_≡_};
 ghost use lib.Seq.{sets};
-ghost use Rattle.feed.specs.Calls.{fedOf};
-ghost use Rattle.feed.specs.Feed.{opening, fed, fedNext};
+ghost use Rattle.answers.specs.Lines.{fresh};
+ghost use Rattle.feed.specs.Feed.{opening, fed, front, fedOf, lineNext};
+use answers::Answer;
+use answers::Cause;
 use records::Record;
 use session::Session;
 
 mod alone;
 mod calls;
-mod pieces;
 
-// How many bytes the printed line has, and whether the feed stops there.
-pub struct Said {
-    pub size: usize,
-    pub stop: bool,
+// A room that a record asks for, or why it has none.
+enum Room {
+    Of(usize),
+    Not(Cause),
 }
 
-// The same, with the session that the next record finds.
+pub struct Answered {
+    pub answer: Answer,
+    pub session: Session,
+}
+
+// An answer, how many bytes its line has, and the session that the next record finds.
 pub struct Fed {
-    pub said: Said,
+    pub size: usize,
+    pub answer: Answer,
     pub session: Session,
 }
 
@@ -31,31 +38,53 @@ pub fn open() -> Session
     b.session
 }
 
-// A record by its tag and its payload. The line's bytes stand at the front of out, as far as out has places for them.
-pub fn call(s: Session, tag: u8, payload: &[u8], out: &mut [u8]) -> Fed
-    ensures { λ r. ⌜ (r ≡ fedOf (fed s tag (now (payload .entry)))) × (now (out .exit) ≡ sets (now (out .entry)) 0 (fed s tag (now (payload .entry)) .answer .line)) ⌝ }
+// A record by its tag and its payload.
+fn call(s: Session, tag: u8, payload: &[u8], work: &mut [u8]) -> Answered
+    requires { ⌜ now work ≡ fresh ⌝ }
+    ensures { λ r. ⌜ (r ≡ fed s tag (now (payload .entry)) .answered) × (now (work .exit) ≡ fed s tag (now (payload .entry)) .left) ⌝ }
 {
     if tag < 0x20 {
-        return calls::on_session(s, tag, payload, out);
+        return calls::on_session(s, tag, payload, work);
     }
-    let said = alone::alone(tag, payload, out);
-    Fed { said, session: s }
+    let answer = alone::alone(tag, payload, work);
+    Answered { answer, session: s }
 }
 
 // The record at the front of what is left of the feed; none is left at its end, and one that is cut short is bad.
-pub fn next(s: Session, bytes: &[u8], out: &mut [u8]) -> Fed
-    ensures { λ r. ⌜ (r ≡ fedOf (fedNext s (now (bytes .entry)))) × (now (out .exit) ≡ sets (now (out .entry)) 0 (fedNext s (now (bytes .entry)) .answer .line)) ⌝ }
+fn answer_front(s: Session, bytes: &[u8], work: &mut [u8]) -> Answered
+    requires { ⌜ now work ≡ fresh ⌝ }
+    ensures { λ r. ⌜ (r ≡ front s (now (bytes .entry)) .answered) × (now (work .exit) ≡ front s (now (bytes .entry)) .left) ⌝ }
 {
     let r = records::record_at(bytes, 0);
     match r {
-        Record::Whole { tag, start, end } => call(s, tag, &bytes[start..end], out),
-        Record::Cut => calls::bad(s, out),
-        Record::End => Fed {
-            said: Said {
-                size: 0,
-                stop: true,
-            },
+        Record::Whole { tag, start, end } => call(s, tag, &bytes[start..end], work),
+        Record::Cut => calls::bad(s, Cause::CutShort),
+        Record::End => Answered {
+            answer: Answer::Finished,
             session: s,
         },
+    }
+}
+
+// The work buffer, filled with A5h.
+fn fresh_work() -> [u8; 4096]
+    ensures { λ r. ⌜ r ≡ fresh ⌝ }
+{
+    [0xa5; 4096]
+}
+
+// The record at the front of what is left of the feed, answered and said. The line's bytes stand at the front of out, as far as out has places for them.
+pub fn next(s: Session, bytes: &[u8], out: &mut [u8]) -> Fed
+    ensures { λ r. ⌜ (r ≡ fedOf (front s (now (bytes .entry)))) × (now (out .exit) ≡ sets (now (out .entry)) 0 (lineNext s (now (bytes .entry)))) ⌝ }
+{
+    let mut work = fresh_work();
+    let a = answer_front(s, bytes, &mut work);
+    let answer = a.answer;
+    let next = a.session;
+    let size = answers::say::say(answer, &work, out);
+    Fed {
+        size,
+        answer,
+        session: next,
     }
 }

@@ -2,7 +2,7 @@
 fn main() {
     let mut input = [0u8; 300];
     let n = io::read_full(0, &mut input);
-    let mut line = [0u8; 64];
+    let mut line = [0u8; 192];
     let size = report::inspect(&input[..n], &mut line);
     io::write_all(1, &line[..size]);
 }

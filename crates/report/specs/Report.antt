@@ -2,19 +2,15 @@
 -- "A refusal prints `refused` and the number". In ASCII, with the line's end.
 use Prim.Native.Nat.{ℕ}
 use mathlib.Core.List.{List, [], _∷_, _++_}
-use mathlib.Core.Bool.{Bool, cond}
+use mathlib.Core.Bool.{cond}
 use lib.Dec.{eqb}
 use lib.ListN.{take}
-use Rattle.text.specs.Spelling.{decimalText}
+use Rattle.text.specs.Lines.{item, space, newline}
 use Rattle.container.specs.declared.Video.{Video}
 use Rattle.container.specs.declared.Video.the-variants.{Absent, One, Two}
 use Rattle.container.specs.declared.Contents.{Contents}
 use Rattle.container.specs.declared.Reading.{Reading}
 use Rattle.container.specs.Reading.{reading}
-
--- a label and the number after it
-unfoldable pub item : List ℕ → ℕ → List ℕ
-item label n = label ++ decimalText n
 
 -- `ok seq `
 abbrev pub okSeq : List ℕ
@@ -39,12 +35,6 @@ audio = 32 ∷ 97 ∷ 117 ∷ 100 ∷ 105 ∷ 111 ∷ 32 ∷ []
 -- `refused `
 abbrev pub refused : List ℕ
 refused = 114 ∷ 101 ∷ 102 ∷ 117 ∷ 115 ∷ 101 ∷ 100 ∷ 32 ∷ []
-
-abbrev pub space : List ℕ
-space = 32 ∷ []
-
-abbrev pub newline : List ℕ
-newline = 10 ∷ []
 
 unfoldable pub videoText : Video → List ℕ
 videoText Absent = item video 0

@@ -1,3 +1,3 @@
-pub mod Spelled
 pub mod Pieces
+pub mod Spelled
 pub mod Unique

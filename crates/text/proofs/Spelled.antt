@@ -1,23 +1,59 @@
--- Laws of the spelling of a byte.
-use Prim.Native.Nat.{ℕ, _≤_}
-use mathlib.Core.Path.{_≡_, refl}
-use mathlib.Core.List.{List}
+-- Laws of the spelling of numbers and bytes: how long it is, and one byte more.
+use Prim.Native.Nat.{ℕ, zero, suc, _+_, _-_, _*_, _/_, _%_, _≤_, _<_}
+use mathlib.Core.Path.{_≡_, refl, sym, ap, _∙_}
+use mathlib.Core.List.{List, [], _∷_, _++_, append-assoc, append-nil}
 use native.Mathlib.Omega.{arith}
-use lib.ListN.{length, take}
-use lib.Seq.{take-append-seam}
+use native.Mathlib.Numerals.{add-one, sub-one}
+use lib.ListN.{length, getD, take, length-append}
+use lib.Seq.{take-suc}
 use lib.Dec.{ltb}
-use Rattle.laws.specs.Calls.{over}
+use borrow.Author.Tests.{lt-ltb, le-ltb}
 use Rattle.laws.proofs.Tests.{chosen}
-use Rattle.text.specs.Spelling.{decimalText, decimalOf}
+use Rattle.text.specs.Spelling.{digitOf, digitsOf, decimalText, hexOf, hexText}
+use Rattle.text.specs.Lines.{item}
 
--- one to three digits
-pub decimal-size : (n : ℕ) → (1 ≤ length (decimalText n)) × (length (decimalText n) ≤ 3)
+-- no digit; one; one more
+pub digits-none : (most n : ℕ) → most ≡ 0 → digitsOf most n ≡ []
+unfolding digitsOf
+digits-none most n e = rw e
+
+pub digits-one : (most n : ℕ) → (most ≡ 0 → ⊥) → n < 10 → digitsOf most n ≡ digitOf n
+unfolding digitsOf
+digits-one zero n h k = absurd (h refl)
+digits-one (suc most) n h k = rw (lt-ltb n 10 k)
+
+pub digits-more : (most n : ℕ) → (most ≡ 0 → ⊥) → 10 ≤ n → digitsOf most n ≡ digitsOf (most - 1) (n / 10) ++ digitOf (n % 10)
+unfolding digitsOf
+digits-more zero n h k = absurd (h refl)
+digits-more (suc most) n h k = rw (le-ltb n 10 k, sub-one)
+
+digits-size : (most n : ℕ) → length (digitsOf most n) ≤ most
+unfolding digitsOf
+digits-size zero n = omega arith
+digits-size (suc most) n =
+    let P : List ℕ → Type 0 = λ l. length l ≤ suc most in
+    chosen P (ltb n 10) _ _ (λ _. omega arith) (λ _. omega (arith, digits-size most (n / 10), length-append (digitsOf most (n / 10)) (digitOf (n % 10))))
+
+-- at most 20 digits
+pub decimal-size : (n : ℕ) → length (decimalText n) ≤ 20
 unfolding decimalText
-decimal-size n =
-    let P : List ℕ → Type 0 = λ l. (1 ≤ length l) × (length l ≤ 3) in
-    chosen P (ltb n 10) _ _ (λ _. omega arith) (λ _. chosen P (ltb n 100) _ _ (λ _. omega arith) (λ _. omega arith))
+decimal-size n = digits-size 20 n
 
--- the digits counted are the number's
-pub decimal-is : (n : ℕ) → take (decimalOf n .size) (decimalOf n .ascii) ≡ decimalText n
-unfolding decimalOf over
-decimal-is n = take-append-seam (decimalText n) _
+pub item-size : (word : List ℕ) (n : ℕ) → length (item word n) ≤ length word + 20
+unfolding item
+item-size word n = omega (arith, length-append word (decimalText n), decimal-size n)
+
+hex-append : (xs ys : List ℕ) → hexText (xs ++ ys) ≡ hexText xs ++ hexText ys
+unfolding hexText
+hex-append [] ys = refl
+hex-append (x ∷ xs) ys = ap (λ (l : List ℕ). hexOf x ++ l) (hex-append xs ys) ∙ sym (append-assoc (hexOf x) (hexText xs) (hexText ys))
+
+-- one byte more
+pub hex-step : (s : List ℕ) (i : ℕ) → i < length s → hexText (take (i + 1) s) ≡ hexText (take i s) ++ hexOf (getD s i 0)
+unfolding hexText
+hex-step s i h = rw (add-one, take-suc s i 0) (hex-append (take i s) (getD s i 0 ∷ []) ∙ ap (λ (l : List ℕ). hexText (take i s) ++ l) (append-nil (hexOf (getD s i 0))))
+
+pub hex-size : (s : List ℕ) → length (hexText s) ≡ 2 * length s
+unfolding hexText hexOf
+hex-size [] = refl
+hex-size (b ∷ s) = omega (arith, hex-size s)

@@ -1,38 +1,65 @@
-// How a byte is spelled: in decimal, and in two hexadecimal digits.
+// Line writing: text put into a lent buffer piece after piece. Each function is given a place and answers the place after what it put.
+// Bytes that the buffer has no place for are left out.
 ghost use mathlib.Core.Path.{_≡_};
 ghost use Prim.Native.Nat.{_<_};
-ghost use Rattle.text.specs.Spelling.{decimalOf, glyphOf, hexOf};
+ghost use Rattle.text.specs.Spelling.{digitOf, digitsOf, decimalText, glyphOf, hexOf, hexText};
+ghost use Rattle.text.specs.Lines.{placeAfter, Put, item};
 
-// The first size digits; the rest is zero.
-pub struct Digits {
-    pub ascii: [u8; 3],
-    pub size: usize,
+fn place_after(at: usize, size: usize) -> usize
+    ensures { λ r. ⌜ r ≡ placeAfter at size ⌝ }
+{
+    if 18446744073709551615 - at < size {
+        return 18446744073709551615;
+    }
+    at + size
 }
 
-// A byte in decimal, with no zero in front.
-pub fn decimal(n: u8) -> Digits
-    ensures { λ r. ⌜ r ≡ decimalOf n ⌝ }
+pub fn put(piece: &[u8], out: &mut [u8], at: usize) -> usize
+    ensures { λ r. ⌜ Put (now (out .entry)) at (now (piece .entry)) (now (out .exit)) r ⌝ }
 {
+    laws::copy_at(piece, out, at);
+    place_after(at, piece.len())
+}
+
+fn put_digit(d: u64, out: &mut [u8], at: usize) -> usize
+    requires { ⌜ d < 10 ⌝ }
+    ensures { λ r. ⌜ Put (now (out .entry)) at (digitOf d) (now (out .exit)) r ⌝ }
+{
+    let digit = [48 + d as u8];
+    put(&digit, out, at)
+}
+
+// At most so many digits.
+fn put_digits(most: usize, n: u64, out: &mut [u8], at: usize) -> usize
+    ensures { λ r. ⌜ Put (now (out .entry)) at (digitsOf most n) (now (out .exit)) r ⌝ }
+{
+    if most == 0 {
+        return at;
+    }
     if n < 10 {
-        return Digits {
-            ascii: [48 + n, 0, 0],
-            size: 1,
-        };
+        return put_digit(n, out, at);
     }
-    if n < 100 {
-        return Digits {
-            ascii: [48 + n / 10, 48 + n % 10, 0],
-            size: 2,
-        };
-    }
-    Digits {
-        ascii: [48 + n / 100, 48 + n / 10 % 10, 48 + n % 10],
-        size: 3,
-    }
+    let p = put_digits(most - 1, n / 10, out, at);
+    put_digit(n % 10, out, p)
+}
+
+// A number in decimal, with no zero in front.
+pub fn put_number(n: u64, out: &mut [u8], at: usize) -> usize
+    ensures { λ r. ⌜ Put (now (out .entry)) at (decimalText n) (now (out .exit)) r ⌝ }
+{
+    put_digits(20, n, out, at)
+}
+
+// A word and the number after it.
+pub fn put_item(word: &[u8], n: u64, out: &mut [u8], at: usize) -> usize
+    ensures { λ r. ⌜ Put (now (out .entry)) at (item (now (word .entry)) n) (now (out .exit)) r ⌝ }
+{
+    let p = put(word, out, at);
+    put_number(n, out, p)
 }
 
 // A byte in two lower-case hexadecimal digits.
-pub fn hex(b: u8) -> [u8; 2]
+fn hex(b: u8) -> [u8; 2]
     ensures { λ r. ⌜ r ≡ hexOf b ⌝ }
 {
     [glyph(b / 16), glyph(b % 16)]
@@ -44,4 +71,18 @@ fn glyph(d: u8) -> u8
     ensures { λ r. ⌜ r ≡ glyphOf d ⌝ }
 {
     if d < 10 { 48 + d } else { 87 + d }
+}
+
+// Two hexadecimal digits a byte, no spaces.
+pub fn put_hex(bytes: &[u8], out: &mut [u8], at: usize) -> usize
+    ensures { λ r. ⌜ Put (now (out .entry)) at (hexText (now (bytes .entry))) (now (out .exit)) r ⌝ }
+{
+    let mut p = at;
+    let mut i = 0;
+    while i < bytes.len() {
+        let digits = hex(bytes[i]);
+        p = put(&digits, out, p);
+        i += 1;
+    }
+    p
 }

@@ -1,100 +1,60 @@
--- `feed::next` meets its contract, by what stands at the front of the bytes.
-use Prim.Native.Nat.{ℕ, _≤_}
-use mathlib.Core.Path.{_≡_, refl, sym, ap, _∙_}
-use mathlib.Core.List.{List}
-use lib.ListN.{length}
+-- `feed::next` meets its contract: what answers the record is quiet, and its line fits.
+use Prim.Native.Nat.{ℕ}
+use mathlib.Core.Path.{ap, _∙_}
 use native.Mathlib.Omega.{arith}
-use Rattle.records.specs.declared.Record.{Record}
-use Rattle.records.specs.declared.Record.the-variants.{Whole, Cut, End}
-use Rattle.records.specs.Records.{recordAt}
-use Rattle.records.proofs.Within.{whole-within}
-use Rattle.session.specs.declared.Session.{Session}
-use Rattle.feed.specs.Lines.{saidOf}
-use Rattle.feed.specs.Calls.{step, fedOf}
-use Rattle.feed.specs.Feed.{fedRecord, fedNext, feedEnd}
-use Rattle.feed.proofs.Steps.{as-fed}
+use lib.ListN.{length}
+use Rattle.text.proofs.Pieces.{put-as, put-front}
+use Rattle.feed.specs.declared.Answered.{Answered}
+use Rattle.feed.specs.declared.Fed.{Fed}
+use Rattle.answers.specs.Lines.{saidOf, lineOf}
+use Rattle.answers.proofs.Sizes.{quiet-said}
+use Rattle.feed.specs.Feed.{stepLine, lineNext, front, fedOf}
+use Rattle.feed.proofs.Kept.{quiet}
+use Rattle.feed.proofs.Sizes.{next-fits}
 use borrow.Author.Needs.{needs}
 use Rattle.feed.proofs.next.Statement.{statement}
 use Rattle.feed.proofs.next.Tie as tie
 
-module _ (c : tie.After-r) where
-  whole : recordAt (c .before .before .before .before .before .args .bytes .now) 0 ≡ Whole (c .r .given .0 .0) (c .r .given .0 .1 .0) (c .r .given .0 .1 .1 .0)
-  whole = sym (c .before .before .record-at .ensures) ∙ c .r .given .1
+fresh-work-requires : tie.Need-fresh-work-requires
+fresh-work-requires c κs = search needs
 
-  within : (c .r .given .0 .1 .0 ≤ c .r .given .0 .1 .1 .0) × (c .r .given .0 .1 .1 .0 ≤ length (c .before .before .before .before .before .args .bytes .now))
-  within = whole-within (c .before .before .before .before .before .args .bytes .now) 0 _ _ _ whole
+slice-aggregate-answer-front : tie.Need-slice-aggregate-answer-front
+slice-aggregate-answer-front c = search needs
 
--- what is done is what the record at the front asks for
-front : (s : Session) (bytes : List ℕ) (r : Record) → recordAt bytes 0 ≡ r → fedRecord s bytes r ≡ fedNext s bytes
-unfolding fedNext
-front s bytes r e = ap (fedRecord s bytes) (sym e)
+answer-front-requires : tie.Need-answer-front-requires
+answer-front-requires c κs = search needs
 
-record-at-requires : tie.Need-record-at-requires
-record-at-requires c κs = search needs
+slice-aggregate-say : tie.Need-slice-aggregate-say
+slice-aggregate-say c = search needs
 
-enum-known-r : tie.Need-enum-known-r
-enum-known-r c = search needs
-
-sub-call : tie.Need-sub-call
-sub-call c = within (c .before) .0
-
-part-call-start : tie.Need-part-call-start
-part-call-start c = omega (arith, within (c .before) .0)
-
-part-call-end : tie.Need-part-call-end
-part-call-end c = omega (arith, within (c .before) .1)
-
-call-requires : tie.Need-call-requires
-call-requires c κs = search needs
-
-enum-told : tie.Need-enum-told
-enum-told c = search needs
-
-bad-requires : tie.Need-bad-requires
-bad-requires c κs = search needs
-
-enum-told-2 : tie.Need-enum-told-2
-enum-told-2 c = search needs
+say-requires : tie.Need-say-requires
+say-requires c κs = search needs
 
 same-length : tie.Need-same-length
 same-length c = search needs
 
 returns : tie.Need-returns
-unfolding fedRecord
+unfolding lineNext stepLine fedOf
 returns c =
-    let a = c .before .before .before .before .before .before .before .before .before .before .before .args in
-    as-fed _ _ _ _ _ (front (a .s) (a .bytes .now) _ (whole (c .before .before .before .before .before .before))) (c .before .before .call .ensures)
-
-same-length-2 : tie.Need-same-length-2
-same-length-2 c = search needs
-
-returns-2 : tie.Need-returns-2
-unfolding fedRecord
-returns-2 c =
-    let a = c .before .before .before .before .before .before .before .before .before .args in
-    as-fed _ _ _ _ _ (front (a .s) (a .bytes .now) Cut (sym (c .before .before .before .before .before .before .record-at .ensures) ∙ c .before .before .before .before .enum-told .given .1)) (c .before .before .bad .ensures)
-
-returns-3 : tie.Need-returns-3
-unfolding fedRecord feedEnd fedOf saidOf
-returns-3 c =
-    let a = c .before .before .before .before .before .args in
-    as-fed (step feedEnd (a .s)) _ _ _ _ (front (a .s) (a .bytes .now) End (sym (c .before .before .record-at .ensures) ∙ c .enum-told2 .given .1)) (refl, refl)
+    let f = c .before .before .before .before .before .before .before .answer-front in
+    let s = c .before .before .before .before .before .before .before .before .before .before .before .before .args .s in
+    let bytes = c .before .before .before .before .before .before .before .before .before .before .before .before .args .bytes .now in
+    let t = front s bytes in
+    let said = ap (λ (a : Answered). saidOf (a .answer) (f .last .1 .1 .0)) (f .ensures .0) ∙ ap (saidOf (t .answered .answer)) (f .ensures .1) ∙ quiet-said (t .answered .answer) (t .left) (quiet s bytes) in
+    let q = put-front (put-as said (c .before .before .say .ensures)) (omega (arith, next-fits s bytes)) in (
+      ap {B = Fed} (λ (n : ℕ). record { size = n; answer = f .result .answer; session = f .result .session }) (q .0)
+          ∙ ap {B = Fed} (λ (a : Answered). record { size = length (lineOf (t .answered .answer) (t .left)); answer = a .answer; session = a .session }) (f .ensures .0),
+      q .1,
+    )
 
 pub next-spec : {M : Type 1} → statement M
 next-spec =
     tie.close
     (tie.spec
-    record-at-requires
-    enum-known-r
-    sub-call
-    part-call-start
-    part-call-end
-    call-requires
-    enum-told
-    bad-requires
-    enum-told-2
+    fresh-work-requires
+    slice-aggregate-answer-front
+    answer-front-requires
+    slice-aggregate-say
+    say-requires
     same-length
-    returns
-    same-length-2
-    returns-2
-    returns-3)
+    returns)

@@ -1,10 +1,9 @@
 -- `report::report` meets its contract.
-use Prim.Native.Nat.{ℕ}
-use mathlib.Core.Path.{_≡_, refl, sym, ap, subst, _∙_}
-use mathlib.Core.List.{List}
+use mathlib.Core.Path.{_≡_, ap, _∙_}
 use borrow.Author.Tests.{eq-eqb, ne-eqb}
-use lib.ListN.{length}
-use lib.Seq.{sets}
+use native.Mathlib.Omega.{arith}
+use Rattle.text.proofs.Pieces.{put-as, put-front}
+use Rattle.report.proofs.Sizes.{reported-size}
 use Rattle.container.specs.declared.Reading.{Reading}
 use Rattle.container.specs.Reading.{reading}
 use Rattle.report.specs.Report.{acceptedText, refusedText, reported}
@@ -34,7 +33,7 @@ returns : tie.Need-returns
 returns c =
     let r = c .before .before .before .before .before .before .read-container .result in
     let l : acceptedText (r .contents) ≡ reported (reading (c .before .before .before .before .before .before .before .before .before .args .bytes .now)) = ok-line r (c .before .before .before .before .if1 .taken) ∙ ap reported (c .before .before .before .before .before .before .read-container .ensures) in
-    (c .before .before .put-accepted .ensures .0 ∙ ap length l, c .before .before .put-accepted .ensures .1 ∙ ap (sets (c .before .before .before .before .before .before .before .before .before .args .out .now) 0) l)
+    put-front (put-as l (c .before .before .put-accepted .ensures)) (omega (arith, reported-size (reading (c .before .before .before .before .before .before .before .before .before .args .bytes .now))))
 
 put-refused-requires : tie.Need-put-refused-requires
 put-refused-requires c κs = search needs
@@ -46,7 +45,7 @@ returns-2 : tie.Need-returns-2
 returns-2 c =
     let r = c .before .before .before .before .before .before .read-container .result in
     let l : refusedText (r .number) ≡ reported (reading (c .before .before .before .before .before .before .before .before .before .args .bytes .now)) = bad-line r (c .before .before .before .before .if1 .left) ∙ ap reported (c .before .before .before .before .before .before .read-container .ensures) in
-    (c .before .before .put-refused .ensures .0 ∙ ap length l, c .before .before .put-refused .ensures .1 ∙ ap (sets (c .before .before .before .before .before .before .before .before .before .args .out .now) 0) l)
+    put-front (put-as l (c .before .before .put-refused .ensures)) (omega (arith, reported-size (reading (c .before .before .before .before .before .before .before .before .before .args .bytes .now))))
 
 pub report-spec : {M : Type 1} → statement M
 report-spec =

@@ -1,0 +1,5 @@
+pub mod Parts
+pub mod Watch
+pub mod Rows
+pub mod Sizes
+pub mod Unique

@@ -1,0 +1,43 @@
+// What the records of a feed are answered, by value, and what is said of it: the line printed for an answer, and why a record is bad (FEED).
+use laws::Done;
+use picture::Told;
+
+pub mod fault;
+pub mod say;
+
+// Why a record is bad.
+pub enum Cause {
+    UnknownTag(u8),
+    TooShort,
+    TooLong,
+    RoomAbove,
+    IdPresent,
+    VideoValues,
+    UnusedPlace,
+    CutShort,
+}
+
+// The calls that hand out bytes into a room.
+pub enum Hand {
+    Pack,
+    Sample,
+    Rewrite,
+    Wrap,
+    Unwrap,
+    Write,
+}
+
+// What the call of a record answers. Bytes that it hands out lie at the front of the work buffer.
+pub enum Answer {
+    Setup(u8),
+    Line(u8, Told),
+    Sound(u8),
+    VideoRestart,
+    AudioRestart,
+    Handed(Hand, Done),
+    // 21h: the size of its line, which lies at the front of the work buffer.
+    Reported(usize),
+    Bad(Cause),
+    // No record is left.
+    Finished,
+}
