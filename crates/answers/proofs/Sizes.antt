@@ -10,7 +10,7 @@ use Rattle.text.specs.Spelling.{hexText}
 use Rattle.text.specs.Lines.{item, newline}
 use Rattle.text.proofs.Spelled.{item-size, hex-size}
 use Rattle.picture.specs.declared.Told.{Told}
-use Rattle.picture.specs.declared.Told.the-variants.{Open, Nothing, Print}
+use Rattle.picture.specs.declared.Told.the-variants.{Open, Nothing, Value}
 use Rattle.answers.specs.declared.Cause.{Cause}
 use Rattle.answers.specs.declared.Hand.{Hand}
 use Rattle.answers.specs.declared.Answer.{Answer}
@@ -28,7 +28,7 @@ number-size word n = omega (arith, length-append (item word n) newline, item-siz
 told-size : (t : Told) → length (toldText t) ≤ 27
 told-size Open = omega arith
 told-size Nothing = omega arith
-told-size (Print f) = omega (arith, item-size field f)
+told-size (Value f) = omega (arith, item-size field f)
 
 line-size : (n : ℕ) (told : Told) → length (lineLine n told) ≤ 64
 unfolding lineLine

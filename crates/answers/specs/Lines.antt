@@ -9,7 +9,7 @@ use Rattle.laws.specs.declared.Done.{Done}
 use Rattle.text.specs.Spelling.{hexText}
 use Rattle.text.specs.Lines.{item, space, newline}
 use Rattle.picture.specs.declared.Told.{Told}
-use Rattle.picture.specs.declared.Told.the-variants.{Open, Nothing, Print}
+use Rattle.picture.specs.declared.Told.the-variants.{Open, Nothing, Value}
 use Rattle.answers.specs.declared.Hand.{Hand}
 use Rattle.answers.specs.declared.Hand.the-variants.{Pack, Sample, Rewrite, Wrap, Unwrap, Write}
 use Rattle.answers.specs.declared.Answer.{Answer}
@@ -24,7 +24,7 @@ numberLine word number = item word number ++ newline
 abbrev pub toldText : Told → List ℕ
 toldText Open = []
 toldText Nothing = fieldNone
-toldText (Print f) = item field f
+toldText (Value f) = item field f
 
 unfoldable pub lineLine : ℕ → Told → List ℕ
 lineLine number told = item line number ++ toldText told ++ newline

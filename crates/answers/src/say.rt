@@ -24,7 +24,7 @@ fn put_told(told: Told, out: &mut [u8], at: usize) -> usize
     match told {
         Told::Open => at,
         Told::Nothing => text::put(b" field none", out, at),
-        Told::Print(f) => text::put_item(b" field ", f as u64, out, at),
+        Told::Value(f) => text::put_item(b" field ", f as u64, out, at),
     }
 }
 

@@ -5,7 +5,7 @@ use mathlib.Core.List.{List}
 use lib.Dec.{ltb}
 use lib.ListN.{length, getD, take, drop}
 use Rattle.picture.specs.declared.Told.{Told}
-use Rattle.picture.specs.declared.Told.the-variants.{Open, Nothing, Print}
+use Rattle.picture.specs.declared.Told.the-variants.{Open, Nothing, Value}
 use Rattle.picture.specs.Pictures.{freshPicture, handedOut, lineOf}
 use Rattle.bench_video.specs.declared.After.{After}
 
@@ -13,7 +13,7 @@ use Rattle.bench_video.specs.declared.After.{After}
 unfoldable pub valueOf : Told → ℕ
 valueOf Open = 0
 valueOf Nothing = 0
-valueOf (Print v) = v
+valueOf (Value v) = v
 
 -- one line; a frame that is ready is handed out
 unfoldable pub stepOf : After → ℕ → ℕ → List ℕ → After

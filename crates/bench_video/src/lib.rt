@@ -27,7 +27,7 @@ fn value(told: Told) -> u8
     match told {
         Told::Open => 0,
         Told::Nothing => 0,
-        Told::Print(v) => v,
+        Told::Value(v) => v,
     }
 }
 

@@ -8,12 +8,12 @@ use native.Mathlib.Numerals.{add-one}
 use lib.ListN.{length, getD, take, drop, length-append}
 use lib.Seq.{length-take-le, take-suc}
 use Rattle.laws.specs.Sums.{sum}
-use Rattle.container.specs.declared.Video.{Video}
-use Rattle.container.specs.declared.Video.the-variants.{Absent, One, Two}
+use Rattle.laws.specs.declared.Video.{Video}
+use Rattle.laws.specs.declared.Video.the-variants.{Absent, One, Two}
 use Rattle.container.specs.declared.Print.{Print}
 use Rattle.container.specs.declared.Contents.{Contents}
 use Rattle.container.specs.Contents.{blankPrint}
-use Rattle.container.specs.Bytes.{idBytes, videoBytes, printBytes, runBytes, audioBytes, partBytes, frontBytes, checkOf, encode}
+use Rattle.container.specs.Bytes.{idBytes, videoBytes, printBytes, runBytes, audioBytes, partBytes, frontBytes, checkByte, encode}
 use Rattle.container.specs.Writing.{RunFits, Fits}
 
 pub print-length : (p : Print) → p .size ≤ length (p .bytes) → length (printBytes p) ≡ p .size + 2
@@ -107,4 +107,4 @@ front-length c = omega arith
 
 pub encode-length : (c : Contents) → length (encode c) ≡ length (partBytes c) + 5
 unfolding encode
-encode-length c = omega (arith, length-append (frontBytes c) (checkOf (sum (frontBytes c)) ∷ []), front-length c)
+encode-length c = omega (arith, length-append (frontBytes c) (checkByte (sum (frontBytes c)) ∷ []), front-length c)

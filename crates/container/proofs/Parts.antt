@@ -17,7 +17,7 @@ use Rattle.container.specs.declared.VideoPart.{VideoPart}
 use Rattle.container.specs.declared.PrintPart.{PrintPart}
 use Rattle.container.specs.declared.AudioPart.{AudioPart}
 use Rattle.container.specs.Parts.{noPrint, idPart, oneField, bothFields, videoPart, printPart, printAt, runOf, audioOf, audioPart}
-use Rattle.container.specs.Reading.{headerNumber, refusal, accepted, joined, idIn, videoIn, audioIn, partsReading}
+use Rattle.container.specs.Reading.{headerNumber, refusal, partsSay, partsJoined, idIn, videoIn, audioIn, partsReading}
 
 pub tail-part : (s : List ℕ) (p : ℕ) → take (length s - p) (drop p s) ≡ drop p s
 tail-part s p = take-all (length s - p) (drop p s) (rw length-drop (omega arith))
@@ -158,23 +158,23 @@ audio-used flag b =
 
 module _ (counter flags : ℕ) (b : List ℕ) (i : IdPart) (ei : i ≡ idIn flags b) where
   pub parts-25 : i .ok ≡ false → partsReading counter flags b ≡ refusal 25
-  unfolding partsReading joined
+  unfolding partsReading partsJoined
   parts-25 f = rw (← ei, f)
 
   module _ (fi : i .ok ≡ true) (v : VideoPart) (ev : v ≡ videoPart (flags / 2 % 2) (flags / 16) (drop (i .used) b)) where
     pub parts-26 : v .ok ≡ false → partsReading counter flags b ≡ refusal 26
-    unfolding partsReading joined
+    unfolding partsReading partsJoined
     parts-26 f = rw (← ei, ← ev, fi, f)
 
     module _ (fv : v .ok ≡ true) (a : AudioPart) (ea : a ≡ audioPart (flags % 2) (drop (i .used + v .used) b)) where
       pub parts-27 : a .ok ≡ false → partsReading counter flags b ≡ refusal 27
-      unfolding partsReading joined
+      unfolding partsReading partsJoined
       parts-27 f = rw (← ei, ← ev, ← ea, fi, fv, f)
 
       pub parts-28 : a .ok ≡ true → (i .used + v .used + a .used ≡ length b → ⊥) → partsReading counter flags b ≡ refusal 28
-      unfolding partsReading joined
+      unfolding partsReading partsJoined
       parts-28 f d = rw (← ei, ← ev, ← ea, fi, fv, f, ne-eqb _ _ d)
 
-      pub parts-0 : a .ok ≡ true → i .used + v .used + a .used ≡ length b → partsReading counter flags b ≡ accepted counter flags i v a
-      unfolding partsReading joined
+      pub parts-0 : a .ok ≡ true → i .used + v .used + a .used ≡ length b → partsReading counter flags b ≡ partsSay counter flags i v a
+      unfolding partsReading partsJoined
       parts-0 f d = rw (← ei, ← ev, ← ea, fi, fv, f, eq-eqb _ _ d)

@@ -4,8 +4,8 @@ use mathlib.Core.List.{List, [], _∷_, _++_}
 use mathlib.Core.Bool.{Bool, true, false, cond}
 use lib.ListN.{length, take}
 use Rattle.laws.specs.Sums.{sum}
-use Rattle.container.specs.declared.Video.{Video}
-use Rattle.container.specs.declared.Video.the-variants.{Absent, One, Two}
+use Rattle.laws.specs.declared.Video.{Video}
+use Rattle.laws.specs.declared.Video.the-variants.{Absent, One, Two}
 use Rattle.container.specs.declared.Print.{Print}
 use Rattle.container.specs.declared.Contents.{Contents}
 
@@ -55,8 +55,8 @@ unfoldable pub frontBytes : Contents → List ℕ
 frontBytes c = 0 ∷ c .counter ∷ (length (partBytes c) + 2) ∷ flagByte c ∷ partBytes c
 
 -- "the sum of all bytes is 0 modulo 256"
-unfoldable pub checkOf : ℕ → ℕ
-checkOf s = (256 - s % 256) % 256
+unfoldable pub checkByte : ℕ → ℕ
+checkByte s = (256 - s % 256) % 256
 
 unfoldable pub encode : Contents → List ℕ
-encode c = frontBytes c ++ (checkOf (sum (frontBytes c)) ∷ [])
+encode c = frontBytes c ++ (checkByte (sum (frontBytes c)) ∷ [])

@@ -8,14 +8,14 @@ use lib.Dec.{leb, eqb}
 use Rattle.laws.specs.Calls.{over}
 use Rattle.rates.specs.Rates.{twoFields}
 use Rattle.rates.specs.Mixes.{mixListed}
-use Rattle.container.specs.declared.Video.{Video}
-use Rattle.container.specs.declared.Video.the-variants.{Absent, One, Two}
+use Rattle.laws.specs.declared.Video.{Video}
+use Rattle.laws.specs.declared.Video.the-variants.{Absent, One, Two}
 use Rattle.container.specs.declared.Print.{Print}
 use Rattle.container.specs.declared.IdPart.{IdPart}
 use Rattle.container.specs.declared.VideoPart.{VideoPart}
 use Rattle.container.specs.declared.PrintPart.{PrintPart}
 use Rattle.container.specs.declared.AudioPart.{AudioPart}
-use Rattle.container.specs.Contents.{blankPrint}
+use Rattle.container.specs.Contents.{blankPrint, blanks}
 
 -- ---- ID: byte 00h, then 20 bytes
 
@@ -109,7 +109,7 @@ noAudio = record { ok = false; used = 0; count = 0; prints = replicate 32 blankP
 unfoldable pub audioOf : ℕ → Run → AudioPart
 audioOf n r =
     cond (r .ok)
-    (record { ok = true; used = r .used + 1; count = n; prints = r .list ++ drop n (replicate 32 blankPrint) })
+    (record { ok = true; used = r .used + 1; count = n; prints = r .list ++ blanks n })
     noAudio
 
 unfoldable pub audioPart : ℕ → List ℕ → AudioPart

@@ -31,8 +31,8 @@ abbrev pub refusal : ℕ → Reading
 refusal n = record { number = n; contents = emptyContents }
 
 -- what the parts say, under the counter and the byte with the rate code and the flags
-abbrev pub accepted : ℕ → ℕ → IdPart → VideoPart → AudioPart → Reading
-accepted counter flags i v a =
+abbrev pub partsSay : ℕ → ℕ → IdPart → VideoPart → AudioPart → Reading
+partsSay counter flags i v a =
     record {
       number = 0;
       contents = record {
@@ -47,13 +47,13 @@ accepted counter flags i v a =
     }
 
 -- "25 ID part; 26 video part; 27 audio part; 28 bytes left over"
-unfoldable pub joined : ℕ → ℕ → List ℕ → IdPart → VideoPart → AudioPart → Reading
-joined counter flags b i v a =
+unfoldable pub partsJoined : ℕ → ℕ → List ℕ → IdPart → VideoPart → AudioPart → Reading
+partsJoined counter flags b i v a =
     cond (i .ok)
     (cond (v .ok)
     (cond (a .ok)
     (cond (eqb (i .used + v .used + a .used) (length b))
-    (accepted counter flags i v a)
+    (partsSay counter flags i v a)
     (refusal 28)) (refusal 27)) (refusal 26)) (refusal 25)
 
 -- each part at the start of what the parts before it left
@@ -67,7 +67,7 @@ abbrev pub audioIn : ℕ → List ℕ → AudioPart
 audioIn flags b = audioPart (flags % 2) (drop (idIn flags b .used + videoIn flags b .used) b)
 
 unfoldable pub partsReading : ℕ → ℕ → List ℕ → Reading
-partsReading counter flags b = joined counter flags b (idIn flags b) (videoIn flags b) (audioIn flags b)
+partsReading counter flags b = partsJoined counter flags b (idIn flags b) (videoIn flags b) (audioIn flags b)
 
 -- the bytes between the flags and the checksum
 unfoldable pub middle : List ℕ → List ℕ

@@ -9,8 +9,8 @@ use Rattle.laws.specs.Calls.{unless, roomNumber, doneWith, outWith}
 use Rattle.laws.specs.declared.Done.{Done}
 use Rattle.rates.specs.Rates.{rateListed, twoFields}
 use Rattle.rates.specs.Mixes.{mixListed}
-use Rattle.container.specs.declared.Video.{Video}
-use Rattle.container.specs.declared.Video.the-variants.{Absent, One, Two}
+use Rattle.laws.specs.declared.Video.{Video}
+use Rattle.laws.specs.declared.Video.the-variants.{Absent, One, Two}
 use Rattle.container.specs.declared.Print.{Print}
 use Rattle.container.specs.declared.Contents.{Contents}
 use Rattle.container.specs.Contents.{blankPrint}

@@ -3,20 +3,15 @@ ghost use mathlib.Core.Path.{_≡_};
 ghost use Prim.Native.Nat.{_%_};
 ghost use lib.ListN.{length};
 ghost use Rattle.laws.specs.Sums.{sum};
+ghost use Rattle.container.specs.Contents.{blankPrint, emptyContents};
 ghost use Rattle.container.specs.Reading.{reading};
 ghost use Rattle.container.specs.Writing.{writeDone, writeOut};
 use laws::Done;
+use laws::Video;
 
 mod read;
 mod valid;
 mod write;
-
-// What a container says of its video.
-pub enum Video {
-    Absent,
-    One(u8),
-    Two(u8, u8),
-}
 
 // One audio fingerprint: AFDataCount is its size, and unused bytes are zero.
 pub struct Print {
@@ -66,6 +61,34 @@ pub struct AudioPart {
     pub used: usize,
     pub count: u8,
     pub prints: [Print; 32],
+}
+
+// A place for a fingerprint that is not used: "unused places are zero".
+pub fn blank_print() -> Print
+    ensures { λ r. ⌜ r ≡ blankPrint ⌝ }
+{
+    Print {
+        id: 0,
+        mix: 0,
+        size: 0,
+        bytes: [0u8; 5],
+    }
+}
+
+// "a refused reading's contents are all zero, with no video".
+pub fn empty_contents() -> Contents
+    ensures { λ r. ⌜ r ≡ emptyContents ⌝ }
+{
+    let none = blank_print();
+    Contents {
+        counter: 0,
+        rate: 0,
+        hasid: false,
+        id: [0u8; 20],
+        video: Video::Absent,
+        count: 0,
+        prints: [none; 32],
+    }
 }
 
 // The sum of all bytes, modulo 256.

@@ -3,7 +3,6 @@ ghost use mathlib.Core.Path.{_≡_};
 ghost use Prim.Native.Nat.{_+_, _≤_};
 ghost use lib.ListN.{length};
 ghost use Rattle.container.specs.Parts.{idPart, oneField, bothFields, videoPart, noVideo, noPrint, printPart, runOf, noAudio, audioOf, audioPart};
-ghost use Rattle.container.specs.Contents.{blankPrint};
 ghost use Rattle.container.specs.Reading.{headerNumber, refusal, partsReading};
 use crate::AudioPart;
 use crate::Contents;
@@ -11,8 +10,10 @@ use crate::IdPart;
 use crate::Print;
 use crate::PrintPart;
 use crate::Reading;
-use crate::Video;
 use crate::VideoPart;
+use crate::blank_print;
+use crate::empty_contents;
+use laws::Video;
 
 // The first of 20 to 24 that applies, or 0.
 pub(crate) fn header_number(s: &[u8]) -> u8
@@ -142,29 +143,14 @@ fn read_video(flag: u8, rate: u8, b: &[u8]) -> VideoPart
     no_video()
 }
 
-fn blank() -> Print
-    ensures { λ r. ⌜ r ≡ blankPrint ⌝ }
-{
-    Print {
-        id: 0,
-        mix: 0,
-        size: 0,
-        bytes: [0u8; 5],
-    }
-}
-
 fn no_print() -> PrintPart
     ensures { λ r. ⌜ r ≡ noPrint ⌝ }
 {
+    let none = blank_print();
     PrintPart {
         ok: false,
         used: 0,
-        print: Print {
-            id: 0,
-            mix: 0,
-            size: 0,
-            bytes: [0u8; 5],
-        },
+        print: none,
     }
 }
 
@@ -211,7 +197,7 @@ fn read_print(b: &[u8]) -> PrintPart
 fn no_audio() -> AudioPart
     ensures { λ r. ⌜ r ≡ noAudio ⌝ }
 {
-    let none = blank();
+    let none = blank_print();
     AudioPart {
         ok: false,
         used: 0,
@@ -225,7 +211,7 @@ fn read_run(n: usize, b: &[u8]) -> AudioPart
     requires { ⌜ n ≤ 32 ⌝ }
     ensures { λ r. ⌜ r ≡ audioOf n (runOf n (now (b .entry))) ⌝ }
 {
-    let none = blank();
+    let none = blank_print();
     let mut prints = [none; 32];
     let mut at = 0;
     let mut k = 0;
@@ -253,7 +239,7 @@ fn read_audio(flag: u8, b: &[u8]) -> AudioPart
     ensures { λ r. ⌜ r ≡ audioPart flag (now (b .entry)) ⌝ }
 {
     if flag == 0 {
-        let none = blank();
+        let none = blank_print();
         return AudioPart {
             ok: true,
             used: 0,
@@ -274,18 +260,10 @@ fn read_audio(flag: u8, b: &[u8]) -> AudioPart
 pub(crate) fn refused(n: u8) -> Reading
     ensures { λ r. ⌜ r ≡ refusal n ⌝ }
 {
-    let none = blank();
+    let none = empty_contents();
     Reading {
         number: n,
-        contents: Contents {
-            counter: 0,
-            rate: 0,
-            hasid: false,
-            id: [0u8; 20],
-            video: Video::Absent,
-            count: 0,
-            prints: [none; 32],
-        },
+        contents: none,
     }
 }
 

@@ -6,7 +6,7 @@ ghost use Rattle.container.specs.Writing.{allZero, idReadable, videoRead
 ghost use Rattle.container.specs.Writing as writing;
 use crate::Contents;
 use crate::Print;
-use crate::Video;
+use laws::Video;
 
 fn all_zero(s: &[u8]) -> bool
     ensures { λ r. ⌜ r ≡ allZero (now (s .entry)) ⌝ }

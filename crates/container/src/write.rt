@@ -9,7 +9,7 @@ ghost use Rattle.container.specs.Bytes as bytes;
 ghost use Rattle.container.specs.Writing.{PrintFits, RunFits, Fits};
 use crate::Contents;
 use crate::Print;
-use crate::Video;
+use laws::Video;
 
 fn write_id(present: bool, id: [u8; 20], out: &mut [u8], at: usize) -> usize
     requires { ⌜ at ≤ 256 ⌝ }
@@ -94,12 +94,6 @@ fn write_parts(c: Contents, out: &mut [u8], at: usize) -> usize
     write_audio(prints, n, out, q)
 }
 
-fn id_flag(present: bool) -> u8
-    ensures { λ r. ⌜ (r ≡ cond present 1 0) × (r ≤ 1) ⌝ }
-{
-    if present { 1 } else { 0 }
-}
-
 fn video_flag(v: Video) -> u8
     ensures { λ r. ⌜ (r ≡ videoFlag v) × (r ≤ 1) ⌝ }
 {
@@ -123,7 +117,7 @@ fn flag_byte(c: Contents) -> u8
     let present = c.hasid;
     let video = c.video;
     let n = c.count;
-    c.rate * 16 + id_flag(present) * 4 + video_flag(video) * 2 + audio_flag(n)
+    c.rate * 16 + laws::flag(present) * 4 + video_flag(video) * 2 + audio_flag(n)
 }
 
 // The parts first, from place 4 on, then the header that counts them, then the checksum.

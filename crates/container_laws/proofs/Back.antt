@@ -22,9 +22,9 @@ use Rattle.container.specs.declared.PrintPart.{PrintPart}
 use Rattle.container.specs.declared.AudioPart.{AudioPart}
 use Rattle.container.specs.declared.Reading.{Reading}
 use Rattle.container.specs.Contents.{blankPrint}
-use Rattle.container.specs.Bytes.{idBytes, videoBytes, printBytes, runBytes, audioBytes, videoFlag, audioFlag, partBytes, flagByte, frontBytes, checkOf, encode}
+use Rattle.container.specs.Bytes.{idBytes, videoBytes, printBytes, runBytes, audioBytes, videoFlag, audioFlag, partBytes, flagByte, frontBytes, checkByte, encode}
 use Rattle.container.specs.Parts.{noVideo, noId, noAudio, idPart, oneField, bothFields, videoPart, printPart, printAt, runOf, audioOf, audioPart}
-use Rattle.container.specs.Reading.{headerNumber, refusal, accepted, joined, idIn, videoIn, audioIn, partsReading, middle, reading}
+use Rattle.container.specs.Reading.{headerNumber, refusal, partsSay, partsJoined, idIn, videoIn, audioIn, partsReading, middle, reading}
 use Rattle.container.proofs.Parts.{HeaderRight, header-right, PrintRight, print-right, print-is, parts-0}
 use Rattle.container.proofs.Runs.{run-length}
 use Rattle.container.proofs.Bytes.{audio-none, audio-some}
@@ -143,7 +143,7 @@ past-refusal : (t : Bool) (x : Reading) (n : ℕ) → cond t x (refusal (suc n))
 past-refusal t x n e = held (λ (r : Reading). r .number ≡ 0) t x (refusal (suc n)) e (λ z. omega (arith, z))
 
 parts-right : (counter flags : ℕ) (b : List ℕ) → partsReading counter flags b .number ≡ 0 → PartsRight flags b
-unfolding partsReading joined
+unfolding partsReading partsJoined
 parts-right counter flags b e =
     let q₁ = past-refusal (idIn flags b .ok) _ 24 e in
     let q₂ = past-refusal (videoIn flags b .ok) _ 25 (q₁ .1) in
@@ -155,7 +155,7 @@ parts-right counter flags b e =
 pub record Accepted (s : List ℕ) : Type 0 where
   pub header : HeaderRight s
   pub parts : PartsRight (getD s 3 0) (middle s)
-  pub says : reading s ≡ accepted (getD s 1 0) (getD s 3 0) (idIn (getD s 3 0) (middle s)) (videoIn (getD s 3 0) (middle s)) (audioIn (getD s 3 0) (middle s))
+  pub says : reading s ≡ partsSay (getD s 1 0) (getD s 3 0) (idIn (getD s 3 0) (middle s)) (videoIn (getD s 3 0) (middle s)) (audioIn (getD s 3 0) (middle s))
 
 past-header : (n : ℕ) (x : Reading) → cond (eqb n 0) x (refusal n) .number ≡ 0 → (n ≡ 0) × (x .number ≡ 0)
 past-header zero x e = (refl, e)
@@ -178,7 +178,7 @@ accepted-is s e =
 
 module _ (counter flags : ℕ) (b : List ℕ) (r : PartsRight flags b) where
   abbrev said : Reading
-  said = accepted counter flags (idIn flags b) (videoIn flags b) (audioIn flags b)
+  said = partsSay counter flags (idIn flags b) (videoIn flags b) (audioIn flags b)
 
   parts-back : partBytes (said .contents) ≡ b
   unfolding partBytes
@@ -212,8 +212,8 @@ module _ (counter flags : ℕ) (b : List ℕ) (r : PartsRight flags b) where
 -- ---- the whole
 
 -- the last byte is the check of the others
-check-back : (front : List ℕ) (z : ℕ) → z < 256 → sum (front ++ (z ∷ [])) % 256 ≡ 0 → checkOf (sum front) ≡ z
-unfolding sum checkOf
+check-back : (front : List ℕ) (z : ℕ) → z < 256 → sum (front ++ (z ∷ [])) % 256 ≡ 0 → checkByte (sum front) ≡ z
+unfolding sum checkByte
 check-back front z h e = omega (arith, sum-append front (z ∷ []))
 
 -- a list by its first four, the middle and the last
@@ -249,5 +249,5 @@ written-again s small e =
     let front : List ℕ = 0 ∷ getD s 1 0 ∷ getD s 2 0 ∷ flags ∷ b in
     let z : ℕ = getD s (length s - 1) 0 in
     let sp : s ≡ front ++ (z ∷ []) = split-ends s (h .five) ∙ ap (λ (x : ℕ). (x ∷ getD s 1 0 ∷ getD s 2 0 ∷ flags ∷ b) ++ (z ∷ [])) (h .version) in
-    let e₄ : checkOf (sum front) ≡ z = check-back front z (small (length s - 1)) (sym (ap (λ (l : List ℕ). sum l % 256) sp) ∙ h .check) in
+    let e₄ : checkByte (sum front) ≡ z = check-back front z (small (length s - 1)) (sym (ap (λ (l : List ℕ). sum l % 256) sp) ∙ h .check) in
     rw (a .says, e₁, e₂, e₃) (ap (λ (x : ℕ). front ++ (x ∷ [])) e₄ ∙ sym sp)

@@ -14,16 +14,17 @@ use Rattle.laws.proofs.Calls.{done, told-zero, handed}
 use Rattle.laws.proofs.Tests.{past}
 use Rattle.rates.specs.Rates.{rateListed, twoFields}
 use Rattle.rates.specs.Mixes.{mixListed}
-use Rattle.container.specs.declared.Video.the-variants.{Two}
+use Rattle.laws.specs.declared.Video.the-variants.{Two}
 use Rattle.container.specs.declared.Print.{Print}
 use Rattle.container.specs.declared.Contents.{Contents}
 use Rattle.container.specs.declared.Reading.{Reading}
-use Rattle.container.specs.Bytes.{idBytes, videoBytes, printBytes, runBytes, audioBytes, partBytes, flagByte, frontBytes, checkOf, encode}
-use Rattle.container.specs.Reading.{headerNumber, joined, partsReading, middle, reading}
+use Rattle.container.specs.Bytes.{idBytes, videoBytes, printBytes, runBytes, audioBytes, partBytes, flagByte, frontBytes, checkByte, encode}
+use Rattle.container.specs.Reading.{headerNumber, partsJoined, partsReading, middle, reading}
 use Rattle.container.specs.Parts.{idPart, bothFields, videoPart, printPart, printAt, runOf, audioOf, audioPart}
 use Rattle.container.specs.Writing.{readable, contentsNumber, writeNumber, writeDone, writeOut}
 use Rattle.container.proofs.Outcome.{write-0}
 use Rattle.container_laws.specs.Typed.{Typed}
+use Rattle.container_laws.specs.Given.{ReadAs}
 use Rattle.container_laws.proofs.Back.{written-again}
 use Rattle.container_laws.proofs.There.{read-as-written}
 use Rattle.container_laws.proofs.Gives.{reading-readable}
@@ -81,11 +82,6 @@ read-back c out t e =
 
 -- ---- 29 is exactly "contents that no reading gives"
 
-pub record ReadAs (c : Contents) : Type 0 where
-  pub container : List ℕ
-  pub bytes : Bytes container
-  pub reads : reading container ≡ says c
-
 pub some-reading : (c : Contents) → Typed c → (readable c ≡ true) ↔ ReadAs c
 some-reading c t = (
   λ e. record { container = encode c; bytes = encode-bytes c t e; reads = read-as-written c t e },
@@ -105,5 +101,5 @@ abbrev biggest : Contents
 biggest = record { counter = 255; rate = 5; hasid = true; id = replicate 20 255; video = Two 240 240; count = 32; prints = replicate 32 full }
 
 pub largest : (reading (encode biggest) .number ≡ 0) × (length (encode biggest) ≡ 254)
-unfolding encode frontBytes partBytes idBytes videoBytes audioBytes runBytes printBytes flagByte checkOf sum reading headerNumber partsReading joined middle idPart videoPart bothFields audioPart audioOf runOf printPart printAt over rateListed twoFields mixListed
+unfolding encode frontBytes partBytes idBytes videoBytes audioBytes runBytes printBytes flagByte checkByte sum reading headerNumber partsReading partsJoined middle idPart videoPart bothFields audioPart audioOf runOf printPart printAt over rateListed twoFields mixListed
 largest = (refl, refl)

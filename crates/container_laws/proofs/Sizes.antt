@@ -13,15 +13,15 @@ use Rattle.laws.specs.Sums.{sum}
 use Rattle.laws.proofs.Bytes.{bytes-nil, bytes-cons, bytes-append, bytes-take, bytes-drop}
 use Rattle.laws.proofs.Tests.{both, chosen}
 use Rattle.rates.specs.Rates.{twoFields}
-use Rattle.container.specs.declared.Video.{Video}
-use Rattle.container.specs.declared.Video.the-variants.{Absent, One, Two}
+use Rattle.laws.specs.declared.Video.{Video}
+use Rattle.laws.specs.declared.Video.the-variants.{Absent, One, Two}
 use Rattle.container.specs.declared.Print.{Print}
 use Rattle.container.specs.declared.IdPart.{IdPart}
 use Rattle.container.specs.declared.VideoPart.{VideoPart}
 use Rattle.container.specs.declared.PrintPart.{PrintPart}
 use Rattle.container.specs.declared.AudioPart.{AudioPart}
 use Rattle.container.specs.declared.Contents.{Contents}
-use Rattle.container.specs.Bytes.{idBytes, videoBytes, printBytes, runBytes, audioBytes, partBytes, videoFlag, audioFlag, flagByte, frontBytes, checkOf, encode}
+use Rattle.container.specs.Bytes.{idBytes, videoBytes, printBytes, runBytes, audioBytes, partBytes, videoFlag, audioFlag, flagByte, frontBytes, checkByte, encode}
 use Rattle.container.specs.Parts.{idPart, oneField, bothFields, videoPart, printPart, printAt, runOf, audioOf, audioPart}
 use Rattle.container.specs.Reading.{idIn, videoIn, audioIn, middle, reading}
 use Rattle.container.specs.Writing.{printReadable, printsReadable, readable}
@@ -151,7 +151,7 @@ flag-small c h = omega (arith, id-flag (c .hasid), video-flag (c .video), audio-
     audio-flag (suc n) = omega arith
 
 pub encode-bytes : (c : Contents) → Typed c → readable c ≡ true → Bytes (encode c)
-unfolding encode frontBytes partBytes checkOf
+unfolding encode frontBytes partBytes checkByte
 encode-bytes c t e =
     let p = passes c e in
     let f = readable-fits c (t .many) e in
@@ -164,7 +164,7 @@ encode-bytes c t e =
     (audio-bytes (c .count) (c .prints) (p .many) (t .prints) (p .prints)) in
     let b : List ℕ = partBytes c in
     let n : ℕ = length b + 2 in
-    let z : ℕ = checkOf (sum (frontBytes c)) in
+    let z : ℕ = checkByte (sum (frontBytes c)) in
     let front : Bytes (frontBytes c) =
     bytes-cons 0 (c .counter ∷ n ∷ flagByte c ∷ b) (omega arith)
     (bytes-cons (c .counter) (n ∷ flagByte c ∷ b) (t .counter)

@@ -15,15 +15,15 @@ use Rattle.laws.proofs.Tests.{both}
 use Rattle.laws.proofs.Sums.{sum-append}
 use Rattle.rates.specs.Rates.{twoFields}
 use Rattle.rates.specs.Mixes.{mixListed}
-use Rattle.container.specs.declared.Video.{Video}
-use Rattle.container.specs.declared.Video.the-variants.{Absent, One, Two}
+use Rattle.laws.specs.declared.Video.{Video}
+use Rattle.laws.specs.declared.Video.the-variants.{Absent, One, Two}
 use Rattle.container.specs.declared.Print.{Print}
 use Rattle.container.specs.declared.IdPart.{IdPart}
 use Rattle.container.specs.declared.VideoPart.{VideoPart}
 use Rattle.container.specs.declared.AudioPart.{AudioPart}
 use Rattle.container.specs.declared.Contents.{Contents}
 use Rattle.container.specs.Contents.{blankPrint}
-use Rattle.container.specs.Bytes.{idBytes, videoBytes, printBytes, runBytes, audioBytes, videoFlag, audioFlag, partBytes, flagByte, frontBytes, checkOf, encode}
+use Rattle.container.specs.Bytes.{idBytes, videoBytes, printBytes, runBytes, audioBytes, videoFlag, audioFlag, partBytes, flagByte, frontBytes, checkByte, encode}
 use Rattle.container.specs.Parts.{idPart, oneField, bothFields, videoPart, printPart, printAt, runOf, audioOf, audioPart}
 use Rattle.container.specs.Reading.{headerNumber, partsReading, middle, reading}
 use Rattle.container.specs.Writing.{allZero, idReadable, videoReadable, printReadable, printBlank, printsReadable, readable, PrintFits}
@@ -237,9 +237,9 @@ module _ (c : Contents) (t : Typed c) (p : Passes c) where
       let l : length I + length W + length A ≡ length (I ++ W ++ A) = sym (length-append (I ++ W) A ∙ ap (λ (k : ℕ). k + length A) (length-append I W)) in
       parts-0 (c .counter) flags (I ++ W ++ A) gi (sym pi) refl gv (sym pv) refl ga (sym pa) refl l ∙ rw (f .rate, f .id, id-flag-is)
 
-check-0 : (front : List ℕ) → sum (front ++ (checkOf (sum front) ∷ [])) % 256 ≡ 0
-unfolding sum checkOf
-check-0 front = omega (arith, sum-append front (checkOf (sum front) ∷ []))
+check-0 : (front : List ℕ) → sum (front ++ (checkByte (sum front) ∷ [])) % 256 ≡ 0
+unfolding sum checkByte
+check-0 front = omega (arith, sum-append front (checkByte (sum front) ∷ []))
 
 pub read-as-written : (c : Contents) → Typed c → readable c ≡ true → reading (encode c) ≡ record { number = 0; contents = c }
 unfolding reading encode frontBytes middle
@@ -248,7 +248,7 @@ read-as-written c t e =
     let f = flags-there c in
     let b : List ℕ = partBytes c in
     let front : List ℕ = 0 ∷ c .counter ∷ (length b + 2) ∷ flagByte c ∷ b in
-    let z : ℕ = checkOf (sum front) in
+    let z : ℕ = checkByte (sum front) in
     let s : List ℕ = front ++ (z ∷ []) in
     let l : length s ≡ length b + 5 = omega (arith, length-append b (z ∷ [])) in
     let h : HeaderRight s =

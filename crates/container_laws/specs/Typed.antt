@@ -4,8 +4,8 @@ use mathlib.Core.Path.{_≡_}
 use mathlib.Core.List.{List, [], _∷_}
 use lib.ListN.{length}
 use Rattle.laws.specs.Bytes.{Bytes}
-use Rattle.container.specs.declared.Video.{Video}
-use Rattle.container.specs.declared.Video.the-variants.{Absent, One, Two}
+use Rattle.laws.specs.declared.Video.{Video}
+use Rattle.laws.specs.declared.Video.the-variants.{Absent, One, Two}
 use Rattle.container.specs.declared.Print.{Print}
 use Rattle.container.specs.declared.Contents.{Contents}
 

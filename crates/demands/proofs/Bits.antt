@@ -18,8 +18,8 @@ use Rattle.container.specs.Contents.{blankPrint}
 use Rattle.container_laws.specs.Typed.{Typed}
 use Rattle.container_laws.proofs.Container.{says, read-back}
 use Rattle.session.specs.declared.Session.{Session}
-use Rattle.session.specs.Prints.{withBlanks}
-use Rattle.session.specs.Session.{noPrint}
+use Rattle.session.specs.Fingerprints.{withBlanks}
+use Rattle.session.specs.Session.{noFingerprint}
 use Rattle.demands.specs.Calls.{Setup, Call, line, sound, pack, video-restart, audio-restart, Answer, Event, answerOf}
 use Rattle.demands.specs.Paper.{samples, bytesDue, bitsPacked, audioAfter, sounded, audioSaid, contentsSaid, packedSaid, said, accepted}
 use Rattle.demands.specs.Demands.{readBack, ReadsBack, PrintRight, ContainerRight, BitsRight}
@@ -81,8 +81,8 @@ module _ (u : Setup) (a : accepted u ≡ true) {es : List Event} {t : Session} (
   bits-right audio-restart = tt
 
   pub stored-near : (k : ℕ) → k < length (u .mixes)
-      → Near 1023 (getD (t .prints) k noPrint .envelope) (exactEnvelope (samples es (getD (u .mixes) k 0) k))
-      × Near 8191 (getD (t .prints) k noPrint .mean) (exactMean (samples es (getD (u .mixes) k 0) k))
+      → Near 1023 (getD (t .fingerprints) k noFingerprint .envelope) (exactEnvelope (samples es (getD (u .mixes) k 0) k))
+      × Near 8191 (getD (t .fingerprints) k noFingerprint .mean) (exactMean (samples es (getD (u .mixes) k 0) k))
   stored-near k i =
       let v = rw (zero-add k) at (voice-at (o .voices) k i) in
-      answers.stored-near (getD (u .mixes) k 0) (intervalOf (u .rate)) (samples es (getD (u .mixes) k 0) k) (bitsPacked (u .rate) (sounded u es)) (getD (t .prints) k noPrint) v
+      answers.stored-near (getD (u .mixes) k 0) (intervalOf (u .rate)) (samples es (getD (u .mixes) k 0) k) (bitsPacked (u .rate) (sounded u es)) (getD (t .fingerprints) k noFingerprint) v

@@ -47,7 +47,7 @@ pub line-contract : (κs : Lfts 1) (a : ArgsD line.signature κs) (r : ResD line
     → let c : Call = calls.line (a .1 .0) (now (a .1 .1 .0)) in
     (record { number = r .number; told = r .told; written = 0; out = [] } ≡ answerOf (a .0) c) × (r .session ≡ afterCall (a .0) c)
 unfolding answerOf afterCall
-line-contract κs a r s p = (ap (λ (x : Lined). record { number = x .number; told = x .told; written = 0; out = [] }) p, ap (λ (x : Lined). x .session) p)
+line-contract κs a r s p = (ap (λ (x : Lined). record { number = x .number; told = x .told; written = 0; out = [] }) (p .0), ap (λ (x : Lined). x .session) (p .0))
 
 pub sound-contract : (κs : Lfts 1) (a : ArgsD sound.signature κs) (r : ResD sound.signature κs) (s : AtExit (endedOf 1 sound-kinds.ps sound-kinds.r) κs)
     → sound-reads.Post κs a r s

@@ -15,6 +15,7 @@ use Rattle.container.specs.Reading.{reading}
 use Rattle.container.specs.Writing.{writeNumber, writeDone, writeOut}
 use Rattle.packet.specs.Writing as packet
 use Rattle.packet.specs.Reading as packets
+use Rattle.host.specs.Host as host
 use Rattle.session.specs.declared.Session.{Session}
 use Rattle.session.specs.Session.{emptySession, setupOf}
 use Rattle.demands.specs.Calls.{Setup, Call, pack, Answer, Event, begun, answerOf, Run}
@@ -68,9 +69,40 @@ pub refused-packet-read : (s out : List ℕ) → (packets.readDone s (length out
 unfolding packets.readDone packets.readOut doneWith
 refused-packet-read s out h = refusals.nothing-written (packets.readNumber s (length out)) (packets.userBytes s) out h
 
--- Accepted or refused, no byte of a lent buffer changes behind those counted as written.
+-- And of Read container as the host calls it, its contents flat.
+pub refused-flat-reading : (s out : List ℕ) → (host.readDone s (length out) .number ≡ 0 → ⊥)
+    → (host.readDone s (length out) .written ≡ 0) × (host.readOut s out ≡ out)
+unfolding host.readDone host.readOut doneWith
+refused-flat-reading s out h = refusals.nothing-written (host.readNumber s (length out)) (host.flatOf s) out h
+
+-- Accepted or refused, no byte of a lent buffer changes behind those counted as written: of a call on a session,
 pub no-others : (s : Session) (c : Call) → drop (answerOf s c .written) (answerOf s c .out) ≡ drop (answerOf s c .written) (lent c)
 no-others s c = refusals.no-others-after s c
+
+-- and of Write, line sampling, both packet calls and the host's reading
+pub write-no-others : (c : Contents) (out : List ℕ) → drop (writeDone c (length out) .written) (writeOut c out) ≡ drop (writeDone c (length out) .written) out
+unfolding writeDone writeOut
+write-no-others c out = refusals.no-others (writeNumber c (length out)) (encode c) out
+
+pub sampling-no-others : (f : ℕ) (line out : List ℕ) → drop (sampleDone f line out .written) (sampleOut f line out) ≡ drop (sampleDone f line out .written) out
+unfolding sampleDone sampleOut
+sampling-no-others f line out =
+    refusals.no-others (roomNumber (sampleNumber f line) (pixels (rowOf f) line) (length out)) (pixels (rowOf f) line) out
+
+pub packet-write-no-others : (c out : List ℕ)
+    → drop (packet.writeDone c (length out) .written) (packet.writeOut c out) ≡ drop (packet.writeDone c (length out) .written) out
+unfolding packet.writeDone packet.writeOut
+packet-write-no-others c out = refusals.no-others (packet.writeNumber c (length out)) (packet.packetBytes c) out
+
+pub packet-read-no-others : (s out : List ℕ)
+    → drop (packets.readDone s (length out) .written) (packets.readOut s out) ≡ drop (packets.readDone s (length out) .written) out
+unfolding packets.readDone packets.readOut
+packet-read-no-others s out = refusals.no-others (packets.readNumber s (length out)) (packets.userBytes s) out
+
+pub flat-reading-no-others : (s out : List ℕ)
+    → drop (host.readDone s (length out) .written) (host.readOut s out) ≡ drop (host.readDone s (length out) .written) out
+unfolding host.readDone host.readOut
+flat-reading-no-others s out = refusals.no-others (host.readNumber s (length out)) (host.flatOf s) out
 
 -- ---- "the number in document 01, in just the cases named there"
 

@@ -11,9 +11,11 @@ use Rattle.container.specs.declared.Contents.{Contents}
 use Rattle.container.specs.Reading.{reading}
 use Rattle.container.specs.Writing.{writeDone, writeOut}
 use Rattle.container_laws.specs.Typed.{Typed}
+use Rattle.container_laws.specs.Given.{ReadAs}
 use Rattle.container_laws.proofs.Container as container
 use Rattle.packet.specs.Reading as read
 use Rattle.packet.specs.Writing as write
+use Rattle.packet_laws.specs.Handed.{wrapped, unwrapped}
 use Rattle.packet_laws.proofs.Packet as packet
 use Rattle.session.specs.declared.Session.{Session}
 use Rattle.session.specs.Session.{setupOf}
@@ -61,16 +63,16 @@ pub read-back : (c : Contents) (out : List ℕ) → Typed c → writeDone c (len
 read-back c out t e = container.read-back c out t e
 
 -- 29 is exactly "contents that no reading gives"
-pub exactly-29 : (c : Contents) (room : ℕ) → Typed c → (writeDone c room .number ≡ 29) ↔ (container.ReadAs c → ⊥)
+pub exactly-29 : (c : Contents) (room : ℕ) → Typed c → (writeDone c room .number ≡ 29) ↔ (ReadAs c → ⊥)
 exactly-29 c room t = container.exactly-29 c room t
 
 -- the same of packets: a packet's contents are its container's bytes
 pub packet-rewritten : (s out again : List ℕ) → Bytes s → read.readDone s (length out) .number ≡ 0 → length s ≤ length again
-    → (write.writeDone (packet.handedOut s out) (length again) ≡ record { number = 0; written = length s })
-    × (write.writeOut (packet.handedOut s out) again ≡ over s again)
+    → (write.writeDone (unwrapped s out) (length again) ≡ record { number = 0; written = length s })
+    × (write.writeOut (unwrapped s out) again ≡ over s again)
 packet-rewritten s out again b e l = packet.rewritten s out again b e l
 
 pub packet-read-back : (c out back : List ℕ) → Bytes c → write.writeDone c (length out) .number ≡ 0 → length c ≤ length back
-    → (read.readDone (packet.written c out) (length back) ≡ record { number = 0; written = length c })
-    × (read.readOut (packet.written c out) back ≡ over c back)
+    → (read.readDone (wrapped c out) (length back) ≡ record { number = 0; written = length c })
+    × (read.readOut (wrapped c out) back ≡ over c back)
 packet-read-back c out back b e l = packet.read-back c out back b e l

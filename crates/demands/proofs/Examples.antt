@@ -20,8 +20,8 @@ use Rattle.picture.specs.declared.Told.the-variants.{Open}
 use Rattle.picture.specs.History.{isWaiting}
 use Rattle.fingerprint.proofs.Bits.{small-zeros}
 use Rattle.container.specs.declared.Print.{Print}
-use Rattle.container.specs.declared.Video.{Video}
-use Rattle.container.specs.declared.Video.the-variants.{Absent, One, Two}
+use Rattle.laws.specs.declared.Video.{Video}
+use Rattle.laws.specs.declared.Video.the-variants.{Absent, One, Two}
 use Rattle.container.specs.declared.Contents.{Contents}
 use Rattle.container.specs.Contents.{blankPrint}
 use Rattle.container.specs.Bytes.{idBytes, videoBytes, partBytes, flagByte, frontBytes, encode}
@@ -31,7 +31,8 @@ use Rattle.container.proofs.Readable.{passes, print-fits}
 use Rattle.container_laws.specs.Typed.{TypedPrint, TypedPrints, Typed}
 use Rattle.container_laws.proofs.There.{read-as-written}
 use Rattle.demands.specs.Calls.{Setup, Call, line, sound, pack, video-restart, audio-restart, Answer, Event}
-use Rattle.demands.specs.Paper.{waiting, made, audioAfter, sounded, contentsSaid, readyNumber, packedSaid, said, saidEmpty, accepted, paper, transcript}
+use Rattle.session.specs.Packing.{readyNumber}
+use Rattle.demands.specs.Paper.{waiting, made, audioAfter, sounded, contentsSaid, packedSaid, said, saidEmpty, accepted, paper, transcript}
 use Rattle.demands.specs.Demands.{readBack}
 use Rattle.demands.specs.Programs.{RightNumbers, bytesIn, RefusesLines, RefusesSound, RefusesPacks, TellsAlways, ShowsAlways, Speaks, SpeaksAlways, PacksAlways, Forgets, newest, Repeats, Invents, Claims}
 use Rattle.demands.specs.Examples.{refusing, withBytes, bytesBy, altering, toldAs, telling, shownAs, withVideo, showing, printAs, withAudio, speaking, packing, forgetting, repeating, withByte, inventing, claiming}

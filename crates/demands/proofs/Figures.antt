@@ -1,10 +1,11 @@
 -- Document 01's starred figures ("Figures to check against"), as one table.
-use Prim.Native.Nat.{ℕ, _+_, _-_}
+use Prim.Native.Nat.{ℕ, _+_, _≤_, _<_}
 use mathlib.Core.Path.{_≡_, refl}
-use mathlib.Core.Bool.{true, false}
+use mathlib.Core.Bool.{true, false, or-true}
 use mathlib.Core.List.{List, [], _∷_}
 use native.Mathlib.Omega.{arith}
 use lib.IntN.{negsuc}
+use lib.Dec.{leb}
 use lib.ListN.{replicate}
 use borrow.Author.Tests.{le-leb, lt-leb}
 use Rattle.laws.specs.Calls.{over}
@@ -14,14 +15,14 @@ use Rattle.rates.specs.Mixes.{mixListed}
 use Rattle.picture.specs.Fields.{changedBy, changesIn, fingerprintOf}
 use Rattle.sound.specs.Mix.{signed, signedAt, instantSamples, weights, divisor, weighted, floor, mixed, pseudoAbsolute}
 use Rattle.sound.specs.Filter.{filterNext, filtered, envelopeAfter, meanAfter}
-use Rattle.container.specs.declared.Video.{Video}
-use Rattle.container.specs.declared.Video.the-variants.{Absent, One}
+use Rattle.laws.specs.declared.Video.{Video}
+use Rattle.laws.specs.declared.Video.the-variants.{Absent, One}
 use Rattle.container.specs.declared.Print.{Print}
 use Rattle.container.specs.declared.Reading.{Reading}
 use Rattle.container.specs.Contents.{blankPrint}
 use Rattle.container.specs.Parts.{idPart, oneField, videoPart, printPart, printAt, runOf, audioOf, audioPart}
-use Rattle.container.specs.Reading.{headerNumber, joined, partsReading, middle, reading}
-use Rattle.packet.specs.Words.{parity, withBit9, wordOf, sum9, checkOf}
+use Rattle.container.specs.Reading.{headerNumber, partsJoined, partsReading, middle, reading}
+use Rattle.packet.specs.Words.{parity, withBit9, wordOf, sum9, checkWord}
 use Rattle.packet.specs.Writing.{headWords, frontWords, packetWords}
 
 -- a container that is accepted, with no ID, and says this
@@ -76,11 +77,23 @@ pub record Figures : Type 0 where
   pub audio : reading (0x00 ∷ 0x00 ∷ 0x07 ∷ 0xB1 ∷ 0x02 ∷ 0x01 ∷ 0x10 ∷ 0xFF ∷ 0x01 ∷ 0x35 ∷ []) ≡ reads 0 11 Absent 1 (bytesFF01 ∷ replicate 31 blankPrint)
   pub checksum : reading (0x00 ∷ 0x00 ∷ 0x07 ∷ 0xB1 ∷ 0x02 ∷ 0x01 ∷ 0x10 ∷ 0xFF ∷ 0x01 ∷ 0x36 ∷ []) .number ≡ 23
 
+unchanged : (x y : ℕ) → x < y + 32 → y < x + 32 → changedBy x y ≡ false
+unfolding changedBy
+unchanged x y h k = rw (lt-leb (y + 32) x h, lt-leb (x + 32) y k) refl
+
+brighter : (x y : ℕ) → y + 32 ≤ x → changedBy x y ≡ true
+unfolding changedBy
+brighter x y h = rw (le-leb (y + 32) x h) refl
+
+darker : (x y : ℕ) → x + 32 ≤ y → changedBy x y ≡ true
+unfolding changedBy
+darker x y h = rw (le-leb (x + 32) y h) (or-true (leb (y + 32) x))
+
 pub figures : Figures
-unfolding changedBy fingerprintOf pseudoAbsolute mixed floor weighted weights divisor instantSamples signedAt signed filtered filterNext reading headerNumber partsReading joined middle idPart videoPart oneField audioPart audioOf runOf printPart printAt over sum rateListed mixListed packetWords frontWords headWords wordOf withBit9 parity sum9 checkOf
+unfolding fingerprintOf pseudoAbsolute mixed floor weighted weights divisor instantSamples signedAt signed filtered filterNext reading headerNumber partsReading partsJoined middle idPart videoPart oneField audioPart audioOf runOf printPart printAt over sum rateListed mixListed packetWords frontWords headWords wordOf withBit9 parity sum9 checkWord
 figures = record {
-  unchanged-31 = λ x. (lt-leb 32 (x - (x + 31) + (x + 31 - x)) (omega arith), lt-leb 32 (x + 31 - x + (x - (x + 31))) (omega arith));
-  changed-32 = λ x. (le-leb 32 (x - (x + 32) + (x + 32 - x)) (omega arith), le-leb 32 (x + 32 - x + (x - (x + 32))) (omega arith));
+  unchanged-31 = λ x. (unchanged x (x + 31) (omega arith) (omega arith), unchanged (x + 31) x (omega arith) (omega arith));
+  changed-32 = λ x. (darker x (x + 32) (omega arith), brighter (x + 32) x (omega arith));
   three = λ f g e. rw e;
   four = λ f g e. rw e;
   all = λ f g e. rw e;

@@ -28,11 +28,11 @@ use Rattle.session.specs.declared.Begun.{Begun}
 use Rattle.session.specs.declared.Lined.{Lined}
 use Rattle.session.specs.declared.Sounded.{Sounded}
 use Rattle.session.specs.declared.Packed.{Packed}
-use Rattle.session.specs.Prints.{freshPrints, each, shed, printsOf}
-use Rattle.session.specs.Session.{isSet, noPrint, withPrint, lineOf, soundedNumber, soundOf, videoRestarted, audioRestarted, setupNumber, setUpWith, setupOf}
-use Rattle.session.specs.Packing.{dueOf, hasAudio, spokenOf, contentsOf, counterAfter, placeFrom, sessionAfter, packNumber, refusedWith, packedWith, packOf, packOut}
+use Rattle.session.specs.Fingerprints.{freshFingerprints, each, shed, printsOf}
+use Rattle.session.specs.Session.{isSet, noFingerprint, withFingerprint, lineOf, soundedNumber, soundOf, videoRestarted, audioRestarted, setupNumber, setUpWith, setupOf}
+use Rattle.session.specs.Packing.{dueOf, hasAudio, spokenOf, contentsOf, counterAfter, placeFrom, sessionAfter, packNumber, refusedWith, packedWith, packOf, packOut, readyNumber}
 use Rattle.demands.specs.Calls.{Setup, Call, line, sound, pack, video-restart, audio-restart, Answer, saying, Event, begun, answerOf, afterCall}
-use Rattle.demands.specs.Paper.{linesAt, lines, waitingAt, waiting, samplesAt, samples, madeAt, made, bytesDue, bitsPacked, audioAfter, soundedAt, sounded, audioSaid, contentsSaid, lineSaid, soundSaid, readyNumber, packedSaid, said, accepted}
+use Rattle.demands.specs.Paper.{linesAt, lines, waitingAt, waiting, samplesAt, samples, madeAt, made, bytesDue, bitsPacked, audioAfter, soundedAt, sounded, audioSaid, contentsSaid, lineSaid, soundSaid, packedSaid, said, accepted}
 use Rattle.demands.proofs.Listed.{Listed, listed, settingsOf, is-set, listed-format, interval-some, cadence-some}
 use Rattle.demands.proofs.Voices.{Voices, fresh-voices, voice-at, same-voices, heard-voices, cleared-voices, all-hold, shed-voices, prints-said}
 
@@ -40,7 +40,7 @@ use Rattle.demands.proofs.Voices.{Voices, fresh-voices, voice-at, same-
 pub record Holds (u : Setup) (es : List Event) (t : Session) : Type 0 where
   pub settings : t .programme .settings ≡ settingsOf u
   pub picture : picture.Holds (u .format) (lines (u .format) es) (waiting (u .format) es) (t .programme .picture)
-  pub voices : Voices (intervalOf (u .rate)) (bitsPacked (u .rate) (sounded u es)) (samples es) 0 (u .mixes) (t .prints)
+  pub voices : Voices (intervalOf (u .rate)) (bitsPacked (u .rate) (sounded u es)) (samples es) 0 (u .mixes) (t .fingerprints)
   pub counter : t .programme .counter ≡ made es % 256
   pub place : t .programme .place ≡ sounded u es % length (cadence (u .rate))
 
@@ -51,7 +51,7 @@ pub record Right (u : Setup) (es : List Event) (t : Session) (c : Call) : Type 0
 
 -- a session by its parts
 abbrev by-parts : Setup → Picture → ℕ → ℕ → List Fingerprint → Session
-by-parts u v n q fs = record { programme = record { settings = settingsOf u; picture = v; counter = n; place = q }; prints = fs }
+by-parts u v n q fs = record { programme = record { settings = settingsOf u; picture = v; counter = n; place = q }; fingerprints = fs }
 
 module _ (u : Setup) (l : Listed u) (es : List Event) (v : Picture) (n q : ℕ) (fs : List Fingerprint) (o : Holds u es (by-parts u v n q fs)) where
   abbrev s : Session
@@ -113,11 +113,11 @@ module _ (u : Setup) (l : Listed u) (es : List Event) (v : Picture) (n q : ℕ) 
   sound-number k b = rw (is-set u l) (go (leb (length (u .mixes)) k) refl)
     where
       go : (t : Bool) → leb (length (u .mixes)) k ≡ t
-          → cond (leb (length (u .mixes)) k) 7 (soundNumber d (getD fs k noPrint) (length b)) ≡ soundSaid u es k b
+          → cond (leb (length (u .mixes)) k) 7 (soundNumber d (getD fs k noFingerprint) (length b)) ≡ soundSaid u es k b
       go true e = rw e refl
       go false e =
           let h = voice-at (o .voices) k (leb-false _ _ e) in
-          rw e (sound-paper _ d _ (bitsPacked (u .rate) p) (getD fs k noPrint) h b ∙ rw (zero-add k) refl)
+          rw e (sound-paper _ d _ (bitsPacked (u .rate) p) (getD fs k noFingerprint) h b ∙ rw (zero-add k) refl)
 
   -- a refused block is not heard
   unheard : (k : ℕ) (b : List ℕ) (a : Answer) → eqb (a .number) 0 ≡ false → Holds u (record { call = sound k b; answer = a } ∷ es) s
@@ -131,7 +131,7 @@ module _ (u : Setup) (l : Listed u) (es : List Event) (v : Picture) (n q : ℕ) 
   }
 
   heard : (k : ℕ) (b : List ℕ) → soundedNumber s k (length b) ≡ 0
-      → Holds u (record { call = sound k b; answer = saying 0 } ∷ es) (withPrint s k (heardOf d (getD fs k noPrint) b))
+      → Holds u (record { call = sound k b; answer = saying 0 } ∷ es) (withFingerprint s k (heardOf d (getD fs k noFingerprint) b))
   unfolding soundedNumber lines linesAt waiting waitingAt samples samplesAt made madeAt sounded soundedAt
   heard k b e = record {
     settings = refl;
@@ -141,7 +141,7 @@ module _ (u : Setup) (l : Listed u) (es : List Event) (v : Picture) (n q : ℕ) 
     place = o .place;
   }
     where
-      number-0 : (t : Bool) → cond t 7 (soundNumber d (getD fs k noPrint) (length b)) ≡ 0 → eqb (soundNumber d (getD fs k noPrint) (length b)) 0 ≡ true
+      number-0 : (t : Bool) → cond t 7 (soundNumber d (getD fs k noFingerprint) (length b)) ≡ 0 → eqb (soundNumber d (getD fs k noFingerprint) (length b)) 0 ≡ true
       number-0 true x = absurd (let z : ⊥ = omega arith in z)
       number-0 false x = rw x refl
 
@@ -266,23 +266,23 @@ module _ (u : Setup) (l : Listed u) (es : List Event) (v : Picture) (n q : ℕ) 
 
 -- a session with the settings of its setup
 same-parts : (u : Setup) (t : Session) → t .programme .settings ≡ settingsOf u
-    → by-parts u (t .programme .picture) (t .programme .counter) (t .programme .place) (t .prints) ≡ t
+    → by-parts u (t .programme .picture) (t .programme .counter) (t .programme .place) (t .fingerprints) ≡ t
 same-parts u t e =
     ap (λ (x : Settings). record {
       programme = record { settings = x; picture = t .programme .picture; counter = t .programme .counter; place = t .programme .place };
-      prints = t .prints;
+      fingerprints = t .fingerprints;
     })
     (sym e)
 
 pub right : (u : Setup) → Listed u → (es : List Event) (t : Session) → Holds u es t → (c : Call) → Right u es t c
 right u l es t o c =
     subst (λ (x : Session). Right u es x c) (same-parts u t (o .settings))
-    (right-by-parts u l es (t .programme .picture) (t .programme .counter) (t .programme .place) (t .prints)
+    (right-by-parts u l es (t .programme .picture) (t .programme .counter) (t .programme .place) (t .fingerprints)
     (record { settings = refl; picture = o .picture; voices = o .voices; counter = o .counter; place = o .place }) c)
 
 -- Setup leaves what no event at all leaves
 pub begun-holds : (u : Setup) → accepted u ≡ true → Holds u [] (begun u)
-unfolding begun setupOf accepted setUpWith freshPrints lines waiting samples made sounded bitsPacked
+unfolding begun setupOf accepted setUpWith freshFingerprints lines waiting samples made sounded bitsPacked
 begun-holds u e = chosen (λ (x : Begun). Holds u [] (x .session)) (eqb (setupNumber (u .format) (u .rate) (u .mixes)) 0) _ _
     (λ _. record {
       settings = refl;

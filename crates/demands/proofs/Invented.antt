@@ -11,15 +11,14 @@ use Rattle.rates.specs.Rates.{rateListed, intervalOf, pairsWith}
 use Rattle.rates.specs.Mixes.{mixListed}
 use Rattle.rates.specs.Cadence.{cadence, cadences}
 use Rattle.sampling.specs.Formats.{table, named, rowOf}
-use Rattle.picture.specs.Lines.{twoFields}
+use Rattle.picture.specs.Lines.{interlaced}
 use Rattle.picture.specs.Pictures.{shownOne}
 use Rattle.picture.specs.History.{joined, fields, fieldTells, frameShows, Waiting, a-frame, isWaiting, waitingShows}
 use Rattle.fingerprint.specs.History.{bytesFrom}
 use Rattle.container.specs.declared.Contents.{Contents}
-use Rattle.container.specs.declared.Video.the-variants.{Absent}
+use Rattle.laws.specs.declared.Video.the-variants.{Absent}
 use Rattle.container.specs.Bytes.{idBytes, videoBytes, printBytes, runBytes, audioBytes, partBytes, flagByte, frontBytes, encode}
-use Rattle.session.specs.Prints.{allListed, withBlanks}
-use Rattle.session.specs.Packing.{videoOf}
+use Rattle.session.specs.Fingerprints.{allListed, withBlanks}
 use Rattle.session.specs.Session.{setupNumber}
 use Rattle.demands.specs.Calls.{Setup, Call, pack, Answer}
 use Rattle.demands.specs.Paper.{bytesDue, bitsPacked, printsSaid, contentsSaid, accepted, Program}
@@ -48,7 +47,7 @@ module _ (n : ℕ) {rate : ℕ} (a : accepted (hd rate (monos n)) ≡ true) (p :
   g = follows p d a
 
   module _ {cs : List Call} {ls : List (List ℕ)} {w : Waiting} {q : ℕ} (o : At g cs ls w (played n) q q) (s : Spans rate q)
-      (ready : isWaiting w ≡ true) (no-video : videoOf (waitingShows w) ≡ Absent) where
+      (ready : isWaiting w ≡ true) (no-video : waitingShows w ≡ Absent) where
     abbrev c : Contents
     c = plain rate n q (played n)
 
@@ -71,12 +70,12 @@ module _ (n : ℕ) {rate : ℕ} (a : accepted (hd rate (monos n)) ≡ true) (p :
 
 -- ---- The three containers
 
-no-video-1 : videoOf (waitingShows (a-frame (frameShows 2 (fields (line16 ++ []))))) ≡ Absent
-unfolding videoOf waitingShows frameShows fields joined fieldTells shownOne twoFields rowOf named table
+no-video-1 : waitingShows (a-frame (frameShows 2 (fields (line16 ++ [])))) ≡ Absent
+unfolding waitingShows frameShows fields joined fieldTells shownOne interlaced rowOf named table
 no-video-1 = refl
 
-no-video-2 : videoOf (waitingShows (a-frame (frameShows 2 (fields (line16 ++ (line16 ++ [])))))) ≡ Absent
-unfolding videoOf waitingShows frameShows fields joined fieldTells shownOne twoFields rowOf named table
+no-video-2 : waitingShows (a-frame (frameShows 2 (fields (line16 ++ (line16 ++ []))))) ≡ Absent
+unfolding waitingShows frameShows fields joined fieldTells shownOne interlaced rowOf named table
 no-video-2 = refl
 
 abbrev pub two : Setup

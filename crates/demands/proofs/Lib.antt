@@ -1,11 +1,10 @@
--- The theorems: the three demands, frames, figures, wrong programs, no second outcome; and the lemmas that they stand on.
+-- The theorems: the three demands, frames, figures, wrong programs; and the lemmas that they stand on.
 pub mod Demand1
 pub mod Demand2
 pub mod Demand3
 pub mod Frames
 pub mod Figures
 pub mod Wrong
-pub mod Unique
 pub mod Contracts
 pub mod Runs
 pub mod Invariant

@@ -15,9 +15,9 @@ use Rattle.rates.specs.Rates as rates
 use Rattle.rates.specs.Cadence.{cadence}
 use Rattle.rates.proofs.Table.{some-frames}
 use Rattle.sampling.specs.Formats.{table, named, rowOf}
-use Rattle.picture.specs.Lines.{twoFields}
+use Rattle.picture.specs.Lines.{interlaced}
 use Rattle.session.specs.declared.Settings.{Settings}
-use Rattle.session.specs.Prints.{allListed}
+use Rattle.session.specs.Fingerprints.{allListed}
 use Rattle.session.specs.Session.{isSet, setupNumber}
 use Rattle.demands.specs.Calls.{Setup}
 use Rattle.demands.specs.Paper.{accepted}
@@ -50,8 +50,8 @@ takes-rate f r =
     P b = b ≡ true → (f < 8) × (rateListed r ≡ true)
 
 -- a frame of two fields only at 25, 29.97 or 30
-pub two-at : (f r : ℕ) → pairsWith f r ≡ true → twoFields (rowOf f) ≡ true → rates.twoFields r ≡ true
-unfolding pairsWith twoFields rowOf named table rates.twoFields
+pub two-at : (f r : ℕ) → pairsWith f r ≡ true → interlaced (rowOf f) ≡ true → rates.twoFields r ≡ true
+unfolding pairsWith interlaced rowOf named table rates.twoFields
 two-at zero r e t = rw (eqb-true r 6 e) refl
 two-at (suc zero) r e t = rw (eqb-true r 5 e) refl
 two-at (suc (suc zero)) r e t = absurd (false≢true t)

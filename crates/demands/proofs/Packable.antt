@@ -20,11 +20,11 @@ use Rattle.rates.proofs.Table.{due-1-to-5}
 use Rattle.sampling.specs.Formats.{rowOf}
 use Rattle.sampling.proofs.Filled.{sixty}
 use Rattle.picture.specs.declared.Told.{Told}
-use Rattle.picture.specs.declared.Told.the-variants.{Open, Nothing, Print}
-use Rattle.picture.specs.declared.Shown.{Shown}
-use Rattle.picture.specs.declared.Shown.the-variants as shown
+use Rattle.picture.specs.declared.Told.the-variants.{Open, Nothing, Value}
+use Rattle.laws.specs.declared.Video.{Video}
+use Rattle.laws.specs.declared.Video.the-variants as shown
 use Rattle.picture.specs.Fields.{fingerprintOf}
-use Rattle.picture.specs.Lines.{twoFields}
+use Rattle.picture.specs.Lines.{interlaced}
 use Rattle.picture.specs.Pictures.{shownOne, shownTwo}
 use Rattle.picture.specs.History.{fieldTells, startsFrame, frameShows, Waiting, waitingShows, takes, linesAfter, waitingAfter}
 use Rattle.picture.proofs.Compared.{changes-small}
@@ -41,8 +41,8 @@ use Rattle.container.specs.Writing.{allZero, idReadable, videoReadable, printRe
 use Rattle.container.proofs.Readable.{readable-fits}
 use Rattle.container.proofs.Bytes.{Shaped, parts-at-most, encode-length}
 use Rattle.container_laws.specs.Typed.{TypedPrint, TypedPrints, TypedVideo, Typed}
-use Rattle.session.specs.Prints.{allListed, withBlanks}
-use Rattle.session.specs.Packing.{videoOf, idOf}
+use Rattle.session.specs.Fingerprints.{allListed, withBlanks}
+use Rattle.session.specs.Packing.{idOf}
 use Rattle.demands.specs.Calls.{Setup, Call, line, sound, pack, video-restart, audio-restart, Event}
 use Rattle.demands.specs.Paper.{linesAt, lines, waitingAt, waiting, made, bytesDue, audioAfter, sounded, printsSaid, audioSaid, contentsSaid}
 use Rattle.demands.proofs.Listed.{Listed, two-at, rate-is-listed, cadence-some}
@@ -64,10 +64,10 @@ lines-sized f (e ∷ es) = go (e .call) (lines-sized f es)
 abbrev ToldFits : Told → Type 0
 ToldFits Open = Unit {0}
 ToldFits Nothing = Unit {0}
-ToldFits (Print v) = v ≤ 240
+ToldFits (Value v) = v ≤ 240
 
-abbrev ShownFits : ℕ → Shown → Type 0
-ShownFits rate shown.None = Unit {0}
+abbrev ShownFits : ℕ → Video → Type 0
+ShownFits rate shown.Absent = Unit {0}
 ShownFits rate (shown.One a) = a ≤ 240
 ShownFits rate (shown.Two a b) = (a ≤ 240) × (b ≤ 240) × (rates.twoFields rate ≡ true)
 
@@ -86,20 +86,20 @@ one-fits : (rate : ℕ) (t : Told) → ToldFits t → ShownFits rate (shownOne t
 unfolding shownOne
 one-fits rate Open h = tt
 one-fits rate Nothing h = tt
-one-fits rate (Print v) h = h
+one-fits rate (Value v) h = h
 
 two-fit : (rate : ℕ) (t t′ : Told) → ToldFits t → ToldFits t′ → rates.twoFields rate ≡ true → ShownFits rate (shownTwo t t′)
 unfolding shownTwo
 two-fit rate Open t′ h h′ e = tt
 two-fit rate Nothing t′ h h′ e = tt
-two-fit rate (Print a) Open h h′ e = tt
-two-fit rate (Print a) Nothing h h′ e = tt
-two-fit rate (Print a) (Print b) h h′ e = (h, h′, e)
+two-fit rate (Value a) Open h h′ e = tt
+two-fit rate (Value a) Nothing h h′ e = tt
+two-fit rate (Value a) (Value b) h h′ e = (h, h′, e)
 
 module _ (f rate : ℕ) (pairs : pairsWith f rate ≡ true) where
   frame-fits : {fs : List (List ℕ)} → Each 960 fs → ShownFits rate (frameShows f fs)
   unfolding frameShows
-  frame-fits {fs} a = chosen (ShownFits rate) (twoFields (rowOf f)) _ _
+  frame-fits {fs} a = chosen (ShownFits rate) (interlaced (rowOf f)) _ _
       (λ t. two-fit rate (fieldTells (drop 1 fs)) (fieldTells fs) (tells-before a) (tells-fit a) (two-at f rate pairs t))
       (λ t. one-fits rate (fieldTells fs) (tells-fit a))
 
@@ -119,15 +119,15 @@ module _ (f rate : ℕ) (pairs : pairsWith f rate ≡ true) where
       go video-restart x w = w
       go audio-restart x w = w
 
-video-readable : (rate : ℕ) (s : Shown) → ShownFits rate s → videoReadable rate (videoOf s) ≡ true
-unfolding videoReadable videoOf
-video-readable rate shown.None h = refl
+video-readable : (rate : ℕ) (s : Video) → ShownFits rate s → videoReadable rate s ≡ true
+unfolding videoReadable
+video-readable rate shown.Absent h = refl
 video-readable rate (shown.One a) h = le-leb a 240 h
 video-readable rate (shown.Two a b) h = rw (le-leb a 240 (h .0), le-leb b 240 (h .1), h .2) refl
 
-video-typed : (rate : ℕ) (s : Shown) → ShownFits rate s → TypedVideo (videoOf s)
-unfolding TypedVideo videoOf
-video-typed rate shown.None h = tt
+video-typed : (rate : ℕ) (s : Video) → ShownFits rate s → TypedVideo s
+unfolding TypedVideo
+video-typed rate shown.Absent h = tt
 video-typed rate (shown.One a) h = omega arith
 video-typed rate (shown.Two a b) h = (omega (arith, h .0), omega (arith, h .1))
 

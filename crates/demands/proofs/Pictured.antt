@@ -11,19 +11,18 @@ use Rattle.rates.specs.Rates.{intervalOf}
 use Rattle.rates.specs.Cadence.{cadence, cadences}
 use Rattle.sampling.specs.Formats.{table, named, rowOf}
 use Rattle.sampling.specs.Samples.{sampleAt, tapSum, meanOf, pixelBy, firsts, pixels}
-use Rattle.picture.specs.declared.Told.the-variants.{Print}
+use Rattle.picture.specs.declared.Told.the-variants.{Value}
 use Rattle.picture.specs.Fields.{changedBy, changesIn, fingerprintOf}
-use Rattle.picture.specs.Lines.{among, twoFields, monitored, dueLine, orderNumber, lineNumber}
+use Rattle.picture.specs.Lines.{among, interlaced, monitored, dueLine, orderNumber, lineNumber}
 use Rattle.picture.specs.Pictures.{shownOne}
 use Rattle.picture.specs.History.{joined, fields, fieldTells, lineTells, nextField, nextLine, frameShows, no-frame, isWaiting, waitingShows, takes, linesAfter, toldAfter, numberSaid, toldSaid}
 use Rattle.fingerprint.specs.History.{keptAmong, keptBits}
 use Rattle.fingerprint.specs.Paper.{heldAnswer}
 use Rattle.container.specs.declared.Contents.{Contents}
-use Rattle.container.specs.declared.Video.{Video}
-use Rattle.container.specs.declared.Video.the-variants.{Absent, One, Two}
+use Rattle.laws.specs.declared.Video.{Video}
+use Rattle.laws.specs.declared.Video.the-variants.{Absent, One, Two}
 use Rattle.container.specs.Bytes.{idBytes, videoBytes, partBytes, flagByte, frontBytes, encode}
-use Rattle.session.specs.Prints.{withBlanks}
-use Rattle.session.specs.Packing.{videoOf}
+use Rattle.session.specs.Fingerprints.{withBlanks}
 use Rattle.demands.specs.Calls.{Setup, Call, line, pack, Answer}
 use Rattle.demands.specs.Paper.{bytesDue, bitsPacked, everyHolds, contentsSaid, lineSaid, said, paper, Program, transcript}
 use Rattle.demands.specs.Demands.{Demand2}
@@ -43,7 +42,7 @@ module _ (p : Program) (d : Demand2 p) where
 
   -- and then it is not the line expected
   pub not-again : said u (transcript p u (line 117 dark ∷ [])) (line 117 dark) .number ≡ 4
-  unfolding said lineSaid numberSaid lineNumber orderNumber nextLine nextField dueLine monitored among twoFields rowOf named table isWaiting
+  unfolding said lineSaid numberSaid lineNumber orderNumber nextLine nextField dueLine monitored among interlaced rowOf named table isWaiting
   not-again =
       let g = follows p d is-accepted in
       let o = row-at g (start g) 0 (omega arith) refl refl dark dark-length in
@@ -83,7 +82,7 @@ shot x y = replicate 16 x ++ (replicate 16 y ++ (replicate 16 y ++ []))
 -- document 01 gives 0 where the third frame is black, and 240 where it is white
 pub record Gives (b : List ℕ) (w : ℕ) : Type 0 where
   pub long : length b ≡ 2560
-  pub tells : fieldTells (fields (shot (pixels (rowOf 2) b) (pixels (rowOf 2) dark))) ≡ Print w
+  pub tells : fieldTells (fields (shot (pixels (rowOf 2) b) (pixels (rowOf 2) dark))) ≡ Value w
 
 pub gives-0 : Gives dark 0
 unfolding fieldTells fields joined fingerprintOf changesIn changedBy
@@ -94,7 +93,7 @@ unfolding fieldTells fields joined fingerprintOf changesIn changedBy
 gives-240 = record { long = bright-length; tells = ap₂ (λ (x y : List ℕ). fieldTells (fields (shot x y))) bright-pixels dark-pixels }
 
 last-taken : takes 2 597 0 ≡ true
-unfolding takes monitored among twoFields rowOf named table
+unfolding takes monitored among interlaced rowOf named table
 last-taken = refl
 
 no-bits : everyHolds (intervalOf 3) (bitsPacked 3 0) (bytesDue 3 0) nothing 0 (monos 1) ≡ false
@@ -130,7 +129,7 @@ module _ (p : Program) (d : Demand2 p) {b : List ℕ} {w : ℕ} (k : Gives b w) 
       pack-at g (frame-at g one refl dark dark-length) refl false no-bits
 
   -- the 16th row tells the field's fingerprint
-  pub told-last : p u (transcript p u (shooting b 15)) (line 597 b) .told ≡ Print w
+  pub told-last : p u (transcript p u (shooting b 15)) (line 597 b) .told ≡ Value w
   unfolding said lineSaid toldSaid toldAfter linesAfter lineTells
   told-last =
       let o = rows-at g two-frames refl b (k .long) 15 (omega arith) in
@@ -139,7 +138,7 @@ module _ (p : Program) (d : Demand2 p) {b : List ℕ} {w : ℕ} (k : Gives b w) 
 
   -- and the container has it
   last-at : contentsSaid u (transcript p u (shooting b 16)) [] ≡ shown w
-  unfolding waitingShows videoOf frameShows shownOne twoFields rowOf named table
+  unfolding waitingShows frameShows shownOne interlaced rowOf named table
   last-at = contents-at g (frame-at g two-frames refl b (k .long)) false no-bits ∙ rw (k .tells) refl
 
   pub packed-last : p u (transcript p u (shooting b 16)) (pack [] room) ≡ packedAs (encode (shown w))
@@ -153,9 +152,9 @@ module _ (p : Program) (d : Demand2 p) (v : Setup → ℕ) {b : List ℕ} {w : �
   pub told-is : TellsAlways v p → v u ≡ w
   told-is f =
       let es = transcript p u (shooting b 15) in
-      let one : p u es (line 597 b) .told ≡ Print w = told-last p d k in
-      let two : paper u es (line 597 b) .told ≡ Print w = ap (λ (a : Answer). a .told) (sym (meets p d u (shooting b 15) (line 597 b))) ∙ one in
-      let same : Print (v u) ≡ Print w = sym (f u (shooting b 15) (line 597 b) w two) ∙ one in
+      let one : p u es (line 597 b) .told ≡ Value w = told-last p d k in
+      let two : paper u es (line 597 b) .told ≡ Value w = ap (λ (a : Answer). a .told) (sym (meets p d u (shooting b 15) (line 597 b))) ∙ one in
+      let same : Value (v u) ≡ Value w = sym (f u (shooting b 15) (line 597 b) w two) ∙ one in
       cc
 
   pub shown-is : ShowsAlways v p → v u ≡ w

@@ -8,12 +8,13 @@ use lib.ListN.{length, getD, drop}
 use lib.Seq.{drop-at}
 use borrow.Author.Tests.{eqb-false, ne-eqb}
 use Rattle.laws.specs.Calls.{over, roomNumber, doneWith, outWith}
+use Rattle.laws.specs.Lists.{isOneOf}
 use Rattle.laws.proofs.Tests.{chosen}
 use Rattle.rates.specs.Rates.{intervalOf}
 use Rattle.sampling.specs.Formats.{rowOf}
 use Rattle.picture.specs.Lines.{monitored, orderNumber, lineNumber}
 use Rattle.picture.specs.History.{isWaiting, nextLine, numberSaid}
-use Rattle.picture.proofs.Runs.{refused-same}
+use Rattle.picture.proofs.Answers.{refused-same}
 use Rattle.fingerprint.specs.State.{wholeInstants, valuesOf}
 use Rattle.fingerprint.specs.History.{keptBits}
 use Rattle.fingerprint.specs.Paper.{soundAnswer}
@@ -21,7 +22,7 @@ use Rattle.container.specs.declared.Contents.{Contents}
 use Rattle.container.specs.declared.Reading.{Reading}
 use Rattle.container.specs.Contents.{emptyContents}
 use Rattle.container.specs.Bytes.{encode}
-use Rattle.container.specs.Reading.{headerNumber, joined, idIn, videoIn, audioIn, partsReading, middle, reading}
+use Rattle.container.specs.Reading.{headerNumber, partsJoined, idIn, videoIn, audioIn, partsReading, middle, reading}
 use Rattle.container.specs.Writing.{writeNumber, writeDone, writeOut}
 use Rattle.session.specs.declared.Session.{Session}
 use Rattle.session.specs.declared.Begun.{Begun}
@@ -29,10 +30,10 @@ use Rattle.session.specs.declared.Lined.{Lined}
 use Rattle.session.specs.declared.Sounded.{Sounded}
 use Rattle.session.specs.declared.Packed.{Packed}
 use Rattle.session.specs.Session.{isSet, withPicture, setupNumber, emptySession, setupOf, lineOf, soundedNumber, soundOf}
-use Rattle.session.specs.Packing.{contentsOf, packNumber, refusedWith, sessionAfter, packedWith, packOf, packOut}
+use Rattle.session.specs.Packing.{contentsOf, packNumber, refusedWith, sessionAfter, packedWith, packOf, packOut, readyNumber}
 use Rattle.demands.specs.Calls.{Setup, Call, line, sound, pack, video-restart, audio-restart, Answer, Event, begun, answerOf, afterCall}
-use Rattle.demands.specs.Paper.{lines, waiting, samples, bitsPacked, sounded, contentsSaid, lineSaid, soundSaid, readyNumber, packedSaid, said}
-use Rattle.demands.specs.Demands.{lent, Untouched, numbersOf, isOneOf, InRow}
+use Rattle.demands.specs.Paper.{lines, waiting, samples, bitsPacked, sounded, contentsSaid, lineSaid, soundSaid, packedSaid, said}
+use Rattle.demands.specs.Demands.{lent, Untouched, numbersOf, InRow}
 use Rattle.demands.proofs.Listed.{Listed}
 use Rattle.demands.proofs.Packable.{said-writes}
 use Rattle.demands.proofs.Runs.{setup-1}
@@ -141,7 +142,7 @@ setup-refused u = chosen (λ (x : Begun). (x .number ≡ 0 → ⊥) → (x .numb
     (λ _ h. (setup-1 (u .format) (u .rate) (u .mixes) h, refl))
 
 pub reading-refused : (s : List ℕ) → (reading s .number ≡ 0 → ⊥) → reading s .contents ≡ emptyContents
-unfolding reading partsReading joined
+unfolding reading partsReading partsJoined
 reading-refused s =
     let flags : ℕ = getD s 3 0 in
     let b : List ℕ = middle s in
@@ -169,7 +170,7 @@ module _ (u : Setup) (l : Listed u) (es : List Event) where
   line-number f due ready n len =
       chosen P (eqb len (2 * rowOf f .width)) _ _
       (λ _. chosen P (leb 1 n && leb n (rowOf f .lines)) _ _
-      (λ _. chosen P (monitored (rowOf f) n && not (eqb n due)) _ _ (λ _. refl) (λ _. chosen P (eqb n due && ready) _ _ (λ _. refl) (λ _. refl)))
+      (λ _. chosen P (monitored (rowOf f) n && not (eqb n due)) _ _ (λ _. refl) (λ _. chosen P (ready && eqb n (rowOf f .vstart1)) _ _ (λ _. refl) (λ _. refl)))
       (λ _. refl))
       (λ _. refl)
     where

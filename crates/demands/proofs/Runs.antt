@@ -10,7 +10,7 @@ use Rattle.laws.proofs.Tests.{chosen}
 use Rattle.rates.specs.Rates.{pairsWith}
 use Rattle.session.specs.declared.Session.{Session}
 use Rattle.session.specs.declared.Begun.{Begun}
-use Rattle.session.specs.Prints.{allListed}
+use Rattle.session.specs.Fingerprints.{allListed}
 use Rattle.session.specs.Session.{isSet, setupNumber, setUpWith, emptySession, setupOf, lineOf, soundedNumber, soundOf, videoRestarted, audioRestarted}
 use Rattle.session.specs.Packing.{packNumber, packOf, packOut}
 use Rattle.demands.specs.Calls.{Setup, Call, line, sound, pack, video-restart, audio-restart, Answer, Event, calls, begun, answerOf, afterCall, Run, none, then}

@@ -21,7 +21,7 @@ use Rattle.fingerprint.specs.History.{bitIn}
 use Rattle.fingerprint.specs.Paper.{soundAnswer, heldAnswer, Right}
 use Rattle.container.specs.declared.Print.{Print}
 use Rattle.container.specs.Contents.{blankPrint}
-use Rattle.session.specs.Prints.{allListed}
+use Rattle.session.specs.Fingerprints.{allListed}
 use Rattle.session.specs.Session.{setupNumber}
 use Rattle.demands.specs.Calls.{Setup, Call, sound, pack}
 use Rattle.demands.specs.Paper.{bytesDue, bitsPacked, everyHolds, audioAfter, sounded, accepted, Program, transcript}

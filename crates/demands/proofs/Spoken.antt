@@ -17,7 +17,7 @@ use Rattle.container.specs.declared.AudioPart.{AudioPart}
 use Rattle.container.specs.declared.Reading.{Reading}
 use Rattle.container.specs.Contents.{blankPrint}
 use Rattle.container.specs.Parts.{noPrint, printAt, printPart, runOf, audioOf, audioPart}
-use Rattle.container.specs.Reading.{headerNumber, middle, joined, partsReading, reading}
+use Rattle.container.specs.Reading.{headerNumber, middle, partsJoined, partsReading, reading}
 
 -- what is refused has it, and what passes the test has it
 guarded : {A : Type 0} (P : A → Type 0) (t : Bool) {x y : A} → P y → (t ≡ true → P x) → P (cond t x y)
@@ -65,8 +65,8 @@ in-audio flag b =
 abbrev InReading : Reading → Type 0
 InReading r = SomeByte (r .contents .count) (r .contents .prints)
 
-in-parts : (counter flags : ℕ) (b : List ℕ) (i : IdPart) (v : VideoPart) (a : AudioPart) → InAudio a → InReading (joined counter flags b i v a)
-unfolding joined
+in-parts : (counter flags : ℕ) (b : List ℕ) (i : IdPart) (v : VideoPart) (a : AudioPart) → InAudio a → InReading (partsJoined counter flags b i v a)
+unfolding partsJoined
 in-parts counter flags b i v a h =
     guarded InReading (i .ok) none
     (λ _. guarded InReading (v .ok) none

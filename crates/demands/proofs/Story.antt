@@ -14,17 +14,17 @@ use Rattle.rates.specs.Rates.{intervalOf}
 use Rattle.sampling.specs.Formats.{table, named, rowOf}
 use Rattle.sampling.specs.Samples.{pixels}
 use Rattle.picture.specs.declared.Told.the-variants.{Open}
-use Rattle.picture.specs.Lines.{twoFields, monitored, dueLine, orderNumber, lineNumber}
+use Rattle.picture.specs.Lines.{interlaced, monitored, dueLine, orderNumber, lineNumber}
 use Rattle.picture.specs.History.{fields, nextField, nextLine, startsFrame, frameShows, Waiting, no-frame, a-frame, isWaiting, waitingShows, takes, linesAfter, waitingAfter, numberSaid}
 use Rattle.picture.proofs.Steps.{next-monitored}
 use Rattle.fingerprint.specs.State.{valuesOf}
 use Rattle.fingerprint.specs.Paper.{soundAnswer}
 use Rattle.container.specs.Bytes.{encode}
 use Rattle.container.specs.Writing.{readable, contentsNumber, writeNumber, writeDone, writeOut}
-use Rattle.session.specs.Prints.{withBlanks}
-use Rattle.session.specs.Packing.{videoOf, idOf}
+use Rattle.session.specs.Fingerprints.{withBlanks}
+use Rattle.session.specs.Packing.{idOf, readyNumber}
 use Rattle.demands.specs.Calls.{Setup, Call, line, sound, pack, Answer, Event}
-use Rattle.demands.specs.Paper.{linesAt, lines, waitingAt, waiting, samplesAt, samples, madeAt, made, bytesDue, bitsPacked, everyHolds, audioAfter, soundedAt, sounded, printsSaid, audioSaid, contentsSaid, lineSaid, soundSaid, readyNumber, packedSaid, said, accepted, paper, Program, transcript}
+use Rattle.demands.specs.Paper.{linesAt, lines, waitingAt, waiting, samplesAt, samples, madeAt, made, bytesDue, bitsPacked, everyHolds, audioAfter, soundedAt, sounded, printsSaid, audioSaid, contentsSaid, lineSaid, soundSaid, packedSaid, said, accepted, paper, Program, transcript}
 use Rattle.demands.proofs.Listed.{listed}
 use Rattle.demands.proofs.Packable.{said-writes}
 
@@ -68,7 +68,7 @@ hears j b h mix k = cond (eqb j k) (valuesOf mix b ++ h mix k) (h mix k)
 -- ---- a row
 
 next-is : (ls : List (List ℕ)) → nextLine 2 ls ≡ 117 + 32 * (length ls % 16)
-unfolding nextLine nextField dueLine twoFields rowOf named table
+unfolding nextLine nextField dueLine interlaced rowOf named table
 next-is ls = refl
 
 module _ (ls : List (List ℕ)) (k : ℕ) (small : k < 16) (at : length ls % 16 ≡ k) where
@@ -90,7 +90,7 @@ module _ (ls : List (List ℕ)) (k : ℕ) (small : k < 16) (at : length ls % 16 
       go false = refl
 
   row-starts : (px : List ℕ) → startsFrame 2 (px ∷ ls) ≡ eqb k 15
-  unfolding startsFrame nextField twoFields rowOf named table
+  unfolding startsFrame nextField interlaced rowOf named table
   row-starts px = go (eqb k 15) refl
     where
       go : (t : Bool) → eqb k 15 ≡ t → eqb (suc (length ls) % 16) 0 ≡ t
@@ -192,7 +192,7 @@ module _ {rate : ℕ} {mixes : List ℕ} {p : Program} (g : Follows rate mixes p
           rate = rate;
           hasid = false;
           id = replicate 20 0;
-          video = videoOf (waitingShows w);
+          video = waitingShows w;
           count = cond t (length mixes) 0;
           prints = withBlanks (cond t (printsSaid (intervalOf rate) (bitsPacked rate q) (bytesDue rate q) h 0 mixes) []);
         }

@@ -16,8 +16,8 @@ use Rattle.fingerprint.specs.Paper.{heldAnswer, leaveAnswer, bytesAnswer, AllRi
 use Rattle.fingerprint.proofs.History.{holds-fresh, holds-sound, holds-take, holds-restart}
 use Rattle.fingerprint.proofs.Answers.{holds-paper, can-take-paper, taken-paper, all-right}
 use Rattle.container.specs.declared.Print.{Print}
-use Rattle.session.specs.Prints.{each, cleared, shed, allHold, printOf, printsOf}
-use Rattle.session.specs.Session.{noPrint}
+use Rattle.session.specs.Fingerprints.{each, cleared, shed, allHold, printOf, printsOf}
+use Rattle.session.specs.Session.{noFingerprint}
 use Rattle.demands.specs.Paper.{everyHolds, printsSaid}
 
 -- fingerprints, from k on, of the mix types given: that of mix type m and number n has heard h m n, of whose bits g have left
@@ -31,7 +31,7 @@ fresh-voices d p k (m ∷ ms) fs = more (holds-fresh m d p) (fresh-voices d p (s
 
 -- one of them
 pub voice-at : {d g : ℕ} {h : ℕ → ℕ → List ℕ} {k : ℕ} {ms : List ℕ} {fs : List Fingerprint} → Voices d g h k ms fs
-    → (i : ℕ) → i < length ms → Holds (getD ms i 0) d (h (getD ms i 0) (k + i)) g (getD fs i noPrint)
+    → (i : ℕ) → i < length ms → Holds (getD ms i 0) d (h (getD ms i 0) (k + i)) g (getD fs i noFingerprint)
 voice-at none i l = absurd (not-suc-le-zero l)
 voice-at {k = k} (more v vs) zero l = rw (add-zero k) v
 voice-at {k = k} (more {ms = ms} v vs) (suc i) l = rw (add-suc k i, ← (suc-add k i)) (voice-at vs i (le-of-suc-le-suc l))
@@ -44,8 +44,8 @@ same-voices {k = k} e (more {m = m} v vs) = more (rw (e m k (omega arith)) at v)
 
 -- a block that the i-th takes, number j
 pub heard-voices : {d g : ℕ} {h : ℕ → ℕ → List ℕ} {k : ℕ} {ms : List ℕ} {fs : List Fingerprint} (b : List ℕ) (j : ℕ) → Voices d g h k ms fs
-    → (i : ℕ) → j ≡ k + i → eqb (soundNumber d (getD fs i noPrint) (length b)) 0 ≡ true
-    → Voices d g (λ m n. cond (eqb j n) (valuesOf m b ++ h m n) (h m n)) k ms (set fs i (heardOf d (getD fs i noPrint) b))
+    → (i : ℕ) → j ≡ k + i → eqb (soundNumber d (getD fs i noFingerprint) (length b)) 0 ≡ true
+    → Voices d g (λ m n. cond (eqb j n) (valuesOf m b ++ h m n) (h m n)) k ms (set fs i (heardOf d (getD fs i noFingerprint) b))
 heard-voices b j none i e a = none
 heard-voices {d} {g} {h} {k} b j (more {m = m} {f = f} v vs) zero e a =
     let x : Holds m d (cond (eqb j k) (valuesOf m b ++ h m k) (h m k)) g (heardOf d f b) =

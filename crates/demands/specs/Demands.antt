@@ -1,11 +1,11 @@
 -- The user's demands, of any program; `card` is the one that the contracts of `session` make.
 use Prim.Native.Nat.{ℕ, _<_}
 use mathlib.Core.Path.{_≡_}
-use mathlib.Core.Bool.{Bool, true, false, _||_}
+use mathlib.Core.Bool.{true}
 use mathlib.Core.List.{List, [], _∷_}
-use lib.Dec.{eqb}
 use lib.ListN.{getD, take}
 use Rattle.laws.specs.Bytes.{Bytes}
+use Rattle.laws.specs.Lists.{isOneOf}
 use Rattle.rates.specs.Rates.{intervalOf}
 use Rattle.fingerprint.specs.Paper.{AllRight}
 use Rattle.container.specs.declared.Print.{Print}
@@ -53,10 +53,6 @@ numbersOf (sound k b) = 7 ∷ 8 ∷ 9 ∷ []
 numbersOf (pack id out) = 10 ∷ 11 ∷ 13 ∷ 12 ∷ []
 numbersOf video-restart = []
 numbersOf audio-restart = []
-
-unfoldable pub isOneOf : ℕ → List ℕ → Bool
-isOneOf n [] = false
-isOneOf n (x ∷ xs) = eqb n x || isOneOf n xs
 
 -- an answer's number is 0 or stands in its call's row
 abbrev pub InRow : List Event → Call → Answer → Type 0

@@ -7,10 +7,10 @@ use lib.ListN.{length, set, replicate}
 use Rattle.laws.specs.Calls.{over}
 use Rattle.sampling.specs.Samples.{firsts}
 use Rattle.picture.specs.declared.Told.{Told}
-use Rattle.picture.specs.declared.Told.the-variants.{Open, Nothing, Print}
+use Rattle.picture.specs.declared.Told.the-variants.{Open, Nothing, Value}
 use Rattle.container.specs.declared.Print as container
-use Rattle.container.specs.declared.Video.{Video}
-use Rattle.container.specs.declared.Video.the-variants.{Absent, One, Two}
+use Rattle.laws.specs.declared.Video.{Video}
+use Rattle.laws.specs.declared.Video.the-variants.{Absent, One, Two}
 use Rattle.container.specs.declared.Contents.{Contents}
 use Rattle.container.specs.Bytes.{encode}
 use Rattle.demands.specs.Calls.{Setup, Call, line, sound, pack, video-restart, audio-restart, Answer, Event}
@@ -44,7 +44,7 @@ altering e u es c = withBytes (bytesBy e u es c) c (paper u es c)
 unfoldable pub toldAs : ℕ → Told → Told
 toldAs v Open = Open
 toldAs v Nothing = Nothing
-toldAs v (Print w) = Print v
+toldAs v (Value w) = Value v
 
 unfoldable pub telling : (Setup → ℕ) → Program
 telling v u es c =

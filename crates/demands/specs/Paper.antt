@@ -1,10 +1,9 @@
 -- Document 01 as a function of what was set up and of the calls and answers so far: no slot, no store of bits, no wait, no counter and no place is kept.
 use Prim.Native.Nat.{ℕ, zero, suc, _+_, _-_, _*_, _%_}
-use mathlib.Core.Bool.{Bool, true, cond, _&&_, _||_}
+use mathlib.Core.Bool.{Bool, true, cond, _&&_}
 use mathlib.Core.List.{List, [], _∷_, _++_}
 use lib.Dec.{leb, eqb}
 use lib.ListN.{length, getD, replicate}
-use Rattle.laws.specs.Calls.{unless}
 use Rattle.rates.specs.Rates.{intervalOf}
 use Rattle.rates.specs.Cadence.{cadence}
 use Rattle.picture.specs.declared.Told.the-variants.{Open}
@@ -15,9 +14,9 @@ use Rattle.fingerprint.specs.Paper.{soundAnswer, heldAnswer}
 use Rattle.container.specs.declared.Print.{Print}
 use Rattle.container.specs.declared.Contents.{Contents}
 use Rattle.container.specs.Writing.{writeDone, writeOut}
-use Rattle.session.specs.Prints.{withBlanks}
+use Rattle.session.specs.Fingerprints.{withBlanks}
 use Rattle.session.specs.Session.{setupNumber}
-use Rattle.session.specs.Packing.{videoOf, idOf}
+use Rattle.session.specs.Packing.{idOf, readyNumber}
 use Rattle.demands.specs.Calls.{Setup, Call, line, sound, pack, video-restart, audio-restart, Answer, saying, Event}
 
 -- ---- Histories. Of each: what one event more does, and all events, the newest first.
@@ -121,7 +120,7 @@ contentsSaid u es id =
       rate = u .rate;
       hasid = eqb (length id) 20;
       id = idOf id;
-      video = videoOf (waitingShows (waiting (u .format) es));
+      video = waitingShows (waiting (u .format) es);
       count = cond (audioAfter u (sounded u es) es) (length (u .mixes)) 0;
       prints = withBlanks (cond (audioAfter u (sounded u es) es) (audioSaid u (sounded u es) es) []);
     }
@@ -137,10 +136,7 @@ soundSaid u es k b =
     cond (leb (length (u .mixes)) k) 7
     (soundAnswer (getD (u .mixes) k 0) (intervalOf (u .rate)) (samples es (getD (u .mixes) k 0) k) (bitsPacked (u .rate) (sounded u es)) b)
 
--- "10 no ready frame; 11 ID length neither 0 nor 20"; then what Write answers for these contents, "13; 12" being its
-unfoldable pub readyNumber : Bool → ℕ → ℕ
-readyNumber ready idLength = unless ready 10 (unless (eqb idLength 0 || eqb idLength 20) 11 0)
-
+-- "10 no ready frame; 11 ID length neither 0 nor 20" (`readyNumber`); then what Write answers for these contents, "13; 12" being its
 unfoldable pub packedSaid : ℕ → Contents → List ℕ → Answer
 packedSaid number c out =
     cond (eqb number 0)

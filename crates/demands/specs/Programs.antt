@@ -7,8 +7,8 @@ use mathlib.Core.List.{List, [], _∷_}
 use lib.Dec.{eqb}
 use lib.ListN.{length, getD, take}
 use Rattle.laws.specs.Bytes.{Bytes}
-use Rattle.picture.specs.declared.Told.the-variants.{Print}
-use Rattle.container.specs.declared.Video.the-variants.{Absent}
+use Rattle.picture.specs.declared.Told.the-variants.{Value}
+use Rattle.laws.specs.declared.Video.the-variants.{Absent}
 use Rattle.container.specs.declared.Contents.{Contents}
 use Rattle.container.specs.Contents.{blankPrint}
 use Rattle.demands.specs.Calls.{Setup, Call, line, sound, pack, video-restart, audio-restart, Answer, Event}
@@ -42,7 +42,7 @@ RefusesPacks p = Throughout p (λ u es. (id out : List ℕ) → p u es (pack id 
 
 -- wherever document 01 tells a fingerprint, the program tells v
 abbrev pub TellsAlways : (Setup → ℕ) → Program → Type 0
-TellsAlways v p = Throughout p (λ u es. (c : Call) (w : ℕ) → paper u es c .told ≡ Print w → p u es c .told ≡ Print (v u))
+TellsAlways v p = Throughout p (λ u es. (c : Call) (w : ℕ) → paper u es c .told ≡ Value w → p u es c .told ≡ Value (v u))
 
 -- wherever document 01 has video in a container and no ID is lent, so that byte 5 is the value of the first field, byte 5 of the program's container is v
 abbrev pub ShowsAlways : (Setup → ℕ) → Program → Type 0

@@ -11,8 +11,8 @@ use lib.ListN.{length, getD, set, replicate, drop, length-append, length-drop, l
 use lib.Seq.{getD-set-same, getD-set-other, getD-drop, set-out, ext-getD}
 use lib.Bits.{bitOr, or-lt, or-shr, or-mod, or-zero-r}
 use lib.Pow.{pow-pos, pow-lt, pow-add, mod-pow-add}
+use Rattle.laws.proofs.Lists.{getD-zeros, getD-padded}
 use Rattle.sound.proofs.Whole.{by-order}
-use Rattle.sound.proofs.Instants.{getD-zeros}
 use Rattle.fingerprint.specs.State.{withBit, shifted}
 use Rattle.fingerprint.specs.History.{fromBits, bitIn}
 
@@ -93,11 +93,6 @@ small-bit true l n h k = elim (ℕ-discrete k (n / 8)) [ yes e ↦ at e | no d �
         by-order (n / 8) (length l)
         (λ i. rw (e, getD-set-same l (n / 8) (bitOr (getD l (n / 8) 0) (2 ^ (n % 8))) 0 i) new)
         (λ o. rw (set-out l (n / 8) (bitOr (getD l (n / 8) 0) (2 ^ (n % 8))) o) (h k))
-
-getD-padded : (l : List ℕ) (m i : ℕ) → getD (l ++ replicate m 0) i 0 ≡ getD l i 0
-getD-padded [] m i = getD-zeros m i
-getD-padded (x ∷ l) m zero = refl
-getD-padded (x ∷ l) m (suc i) = getD-padded l m i
 
 getD-shifted : (n : ℕ) (l : List ℕ) (i : ℕ) → getD (shifted n l) i 0 ≡ getD l (n + i) 0
 unfolding shifted

@@ -7,8 +7,8 @@ use native.Mathlib.Omega.{arith}
 use lib.Dec.{eqb}
 use lib.ListN.{length, getD, take, drop, length-append}
 use lib.Seq.{take-at, drop-at, getD-drop, drop-drop}
-use Rattle.container.specs.declared.Video.{Video}
-use Rattle.container.specs.declared.Video.the-variants.{Absent, One, Two}
+use Rattle.laws.specs.declared.Video.{Video}
+use Rattle.laws.specs.declared.Video.the-variants.{Absent, One, Two}
 use Rattle.container.specs.declared.Print.{Print}
 use Rattle.container.specs.declared.Contents.{Contents}
 use Rattle.container_laws.specs.Typed.{TypedPrints, Typed}

@@ -12,8 +12,8 @@ use lib.ListN.{length, getD, take, drop, length-append, drop-of-length-le}
 use lib.Seq.{sets, drop-cons, drop-drop}
 use Rattle.laws.specs.Calls.{over}
 use Rattle.laws.proofs.Lists.{sets-append, sets-then, sets-over}
-use Rattle.container.specs.declared.Video.{Video}
-use Rattle.container.specs.declared.Video.the-variants.{Absent, One, Two}
+use Rattle.laws.specs.declared.Video.{Video}
+use Rattle.laws.specs.declared.Video.the-variants.{Absent, One, Two}
 use Rattle.container.specs.declared.Print.{Print}
 use Rattle.container.specs.declared.Contents.{Contents}
 use Rattle.flat.specs.Flat.{flatVideo, flatPrint, flatPrints, flat}

@@ -5,12 +5,11 @@ ghost use mathlib.Core.Bool.{cond};
 ghost use Prim.Native.Nat.{_+_, _≤_};
 ghost use lib.ListN.{length};
 ghost use lib.Seq.{sets};
-ghost use Rattle.container.specs.Contents.{blankPrint};
 ghost use Rattle.flat.specs.Flat.{flatVideo, flatPrint, flatPrints, flat};
 ghost use Rattle.flat.specs.Unflat.{saysNothing, videoOf, printOf, printsOf, nothing, unflat};
 use container::Contents;
 use container::Print;
-use container::Video;
+use laws::Video;
 
 // Contents, where some 283 bytes are those of contents; else all zero.
 pub struct Unflat {
@@ -22,12 +21,6 @@ pub struct Unflat {
 pub struct Values {
     pub ok: bool,
     pub video: Video,
-}
-
-fn present_byte(present: bool) -> u8
-    ensures { λ r. ⌜ r ≡ cond present 1 0 ⌝ }
-{
-    if present { 1 } else { 0 }
 }
 
 fn video_bytes(v: Video) -> [u8; 3]
@@ -69,7 +62,7 @@ pub fn flatten(c: Contents) -> [u8; 283]
     let id = c.id;
     let video = c.video;
     let prints = c.prints;
-    let head = [c.counter, c.rate, present_byte(c.hasid)];
+    let head = [c.counter, c.rate, laws::flag(c.hasid)];
     let values = video_bytes(video);
     let count = [c.count];
     let mut out = [0u8; 283];
@@ -121,17 +114,6 @@ fn video_of(n: u8, a: u8, b: u8) -> Values
     }
 }
 
-fn blank() -> Print
-    ensures { λ r. ⌜ r ≡ blankPrint ⌝ }
-{
-    Print {
-        id: 0,
-        mix: 0,
-        size: 0,
-        bytes: [0u8; 5],
-    }
-}
-
 // The fingerprint at the start of b.
 fn print_of(b: &[u8]) -> Print
     requires { ⌜ 8 ≤ length (now b) ⌝ }
@@ -151,7 +133,7 @@ fn prints_of(b: &[u8]) -> [Print; 32]
     requires { ⌜ 256 ≤ length (now b) ⌝ }
     ensures { λ r. ⌜ r ≡ printsOf 32 (now (b .entry)) ⌝ }
 {
-    let none = blank();
+    let none = container::blank_print();
     let mut prints = [none; 32];
     let mut k = 0;
     while k < 32 {
@@ -166,18 +148,10 @@ fn prints_of(b: &[u8]) -> [Print; 32]
 fn refused() -> Unflat
     ensures { λ r. ⌜ r ≡ nothing ⌝ }
 {
-    let none = blank();
+    let none = container::empty_contents();
     Unflat {
         ok: false,
-        contents: Contents {
-            counter: 0,
-            rate: 0,
-            hasid: false,
-            id: [0u8; 20],
-            video: Video::Absent,
-            count: 0,
-            prints: [none; 32],
-        },
+        contents: none,
     }
 }
 

@@ -13,14 +13,14 @@ use Rattle.host.proofs.lipsync_sample_line.Reads as sample-line-reads
 one-triple : {A B C : Type 0} {a x y : A} {b v w : B} {d t u : C} → (x ≡ a) × ((v ≡ b) × (t ≡ d)) → (y ≡ a) × ((w ≡ b) × (u ≡ d)) → (x ≡ y) × (_≡_ {A = B × C} (v, t) (w, u))
 one-triple p q = let l = one-pair (p .1) (q .1) in (one-value (p .0) (q .0), ap₂ (λ x y. (x, y)) (l .0) (l .1))
 
-pub read-container-unique : OneOutcome read-container-reads.Post {X = List ℕ × ℕ} (λ κs s. (now (s .1 .0), now (s .1 .1 .0)))
-read-container-unique κs a r r′ s s′ p q = one-triple p q
+pub lipsync-read-container-unique : OneOutcome read-container-reads.Post {X = List ℕ × ℕ} (λ κs s. (now (s .1 .0), now (s .1 .1 .0)))
+lipsync-read-container-unique κs a r r′ s s′ p q = one-triple p q
 
-pub write-packet-unique : OneOutcome write-packet-reads.Post {X = List ℕ × ℕ} (λ κs s. (now (s .1 .0), now (s .1 .1 .0)))
-write-packet-unique κs a r r′ s s′ p q = one-triple p q
+pub lipsync-write-packet-unique : OneOutcome write-packet-reads.Post {X = List ℕ × ℕ} (λ κs s. (now (s .1 .0), now (s .1 .1 .0)))
+lipsync-write-packet-unique κs a r r′ s s′ p q = one-triple p q
 
-pub read-packet-unique : OneOutcome read-packet-reads.Post {X = List ℕ × ℕ} (λ κs s. (now (s .1 .0), now (s .1 .1 .0)))
-read-packet-unique κs a r r′ s s′ p q = one-triple p q
+pub lipsync-read-packet-unique : OneOutcome read-packet-reads.Post {X = List ℕ × ℕ} (λ κs s. (now (s .1 .0), now (s .1 .1 .0)))
+lipsync-read-packet-unique κs a r r′ s s′ p q = one-triple p q
 
-pub sample-line-unique : OneOutcome sample-line-reads.Post {X = List ℕ × ℕ} (λ κs s. (now (s .1 .1 .0), now (s .1 .1 .1 .0)))
-sample-line-unique κs a r r′ s s′ p q = one-triple p q
+pub lipsync-sample-line-unique : OneOutcome sample-line-reads.Post {X = List ℕ × ℕ} (λ κs s. (now (s .1 .1 .0), now (s .1 .1 .1 .0)))
+lipsync-sample-line-unique κs a r r′ s s′ p q = one-triple p q

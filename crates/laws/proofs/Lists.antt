@@ -5,7 +5,7 @@ use mathlib.Core.List.{List, [], _∷_, _++_}
 use native.Mathlib.Omega.{arith}
 use native.Mathlib.Numerals.{add-one}
 use native.Mathlib.Nat.{add-zero, add-suc, suc-add, zero-add, not-suc-le-zero, le-of-suc-le-suc}
-use lib.ListN.{length, getD, drop, set}
+use lib.ListN.{length, getD, drop, set, replicate}
 use lib.Seq.{sets, sets-eq, set-out, drop-cons}
 use Rattle.laws.specs.Calls.{over}
 
@@ -38,3 +38,14 @@ module _ {A : Type 0} where
 pub sets-over : (bytes out : List ℕ) → length bytes ≤ length out → sets out 0 bytes ≡ over bytes out
 unfolding over
 sets-over bytes out h = sets-eq bytes out 0 (omega arith) ∙ simp zero-add
+
+-- zeros behind a list are what stands there by default
+pub getD-zeros : (m i : ℕ) → _≡_ {A = ℕ} (getD (replicate m 0) i 0) 0
+getD-zeros zero i = refl
+getD-zeros (suc m) zero = refl
+getD-zeros (suc m) (suc i) = getD-zeros m i
+
+pub getD-padded : (l : List ℕ) (m i : ℕ) → getD (l ++ replicate m 0) i 0 ≡ getD l i 0
+getD-padded [] m i = getD-zeros m i
+getD-padded (x ∷ l) m zero = refl
+getD-padded (x ∷ l) m (suc i) = getD-padded l m i

@@ -1,11 +1,20 @@
-// What a call that hands out bytes answers, and the copying of bytes.
+// What several crates share: a call's answer, what is said of video, the copying of bytes, a flag as a number.
 ghost use mathlib.Core.Path.{_≡_};
+ghost use mathlib.Core.Bool.{cond};
+ghost use Prim.Native.Nat.{_≤_};
 ghost use lib.Seq.{sets};
 
 // 0 and how many bytes were written, or the refusal's number and 0 (01, "What a caller is told").
 pub struct Done {
     pub number: u8,
     pub written: usize,
+}
+
+// What a frame shows and a container says of its video: "one of none, one field or two".
+pub enum Video {
+    Absent,
+    One(u8),
+    Two(u8, u8),
 }
 
 // The bytes of src stand in out from at on; those that out has no place for are left out.
@@ -23,4 +32,11 @@ pub fn copy_at(src: &[u8], out: &mut [u8], at: usize)
         out[at + i] = src[i];
         i += 1;
     }
+}
+
+// Present is 1, absent 0.
+pub fn flag(on: bool) -> u8
+    ensures { λ r. ⌜ (r ≡ cond on 1 0) × (r ≤ 1) ⌝ }
+{
+    if on { 1 } else { 0 }
 }

@@ -9,7 +9,7 @@ use lib.Dec.{leb, eqb}
 use lib.ListN.{length, getD, length-take, length-drop, length-map}
 use Rattle.laws.proofs.Tests.{past}
 use Rattle.container.specs.Reading.{reading}
-use Rattle.packet.specs.Words.{low, checkOf, wordsOf}
+use Rattle.packet.specs.Words.{low, checkWord, wordsOf}
 use Rattle.packet.specs.Reading.{every, tenBits, parityRight, startRight, namesRight, countOf, userWords, coveredWords, bodyNumber, frameNumber, userBytes, innerNumber}
 use Rattle.packet.proofs.TenBits.{length-wordsOf}
 
@@ -20,7 +20,7 @@ pub record Passed (s : List ℕ) : Type 0 where
   pub count : parityRight (getD (wordsOf s) 5 0) ≡ true
   pub many : length (wordsOf s) ≡ countOf (wordsOf s) + 7
   pub users : every parityRight (userWords (wordsOf s)) ≡ true
-  pub check : getD (wordsOf s) (countOf (wordsOf s) + 6) 0 ≡ checkOf (coveredWords (wordsOf s))
+  pub check : getD (wordsOf s) (countOf (wordsOf s) + 6) 0 ≡ checkWord (coveredWords (wordsOf s))
 
 pub passed : (s : List ℕ) → frameNumber s ≡ 0 → Passed s
 unfolding frameNumber bodyNumber
@@ -34,7 +34,7 @@ passed s h =
     let p34 = past (parityRight (getD ws 5 0)) 34 _ (p33 .1) (omega arith) in
     let q34 = past (eqb (length ws) (countOf ws + 7)) 34 _ (p34 .1) (omega arith) in
     let p35 = past (every parityRight (userWords ws)) 35 _ (q34 .1) (omega arith) in
-    let p36 = past (eqb (getD ws (countOf ws + 6) 0) (checkOf (coveredWords ws))) 36 _ (p35 .1) (omega arith) in
+    let p36 = past (eqb (getD ws (countOf ws + 6) 0) (checkWord (coveredWords ws))) 36 _ (p35 .1) (omega arith) in
     record {
       even = eqb-true _ _ (p30 .0);
       start = p32 .0;

@@ -9,7 +9,7 @@ use lib.ListN.{length, getD, take, drop, set, length-append, length-map, drop-of
 use lib.Seq.{sets, drop-cons, take-at}
 use Rattle.laws.specs.Calls.{over}
 use Rattle.laws.proofs.Lists.{sets-then, sets-over}
-use Rattle.packet.specs.Words.{wordOf, low, sum9, checkOf, bytesOf, wordsOf}
+use Rattle.packet.specs.Words.{wordOf, low, sum9, checkWord, bytesOf, wordsOf}
 use Rattle.packet.specs.Writing.{headWords, frontWords, packetWords, packetBytes}
 use Rattle.packet.specs.Reading.{every}
 
@@ -127,9 +127,9 @@ covered-there : (c out : List ℕ) (size : ℕ) → size ≡ 2 * (length c + 3) 
 unfolding over frontWords headWords bytesOf
 covered-there c out size e = take-at (bytesOf (drop 3 (frontWords c))) _ size (rw length-bytesOf (simp length-map (omega arith)))
 
-with-check : (c : List ℕ) (check : ℕ) → check ≡ checkOf (drop 3 (frontWords c)) → bytesOf (frontWords c) ++ bytesOf (check ∷ []) ≡ packetBytes c
+with-check : (c : List ℕ) (check : ℕ) → check ≡ checkWord (drop 3 (frontWords c)) → bytesOf (frontWords c) ++ bytesOf (check ∷ []) ≡ packetBytes c
 unfolding packetBytes packetWords
-with-check c check e = rw e (sym (bytesOf-append (frontWords c) (checkOf (drop 3 (frontWords c)) ∷ [])))
+with-check c check e = rw e (sym (bytesOf-append (frontWords c) (checkWord (drop 3 (frontWords c)) ∷ [])))
 
 module _ (c out : List ℕ) (room : 2 * length c + 14 ≤ length out) where
   pub front-put : (o₁ o₂ : List ℕ) → o₁ ≡ sets out 0 (bytesOf (headWords (length c))) → o₂ ≡ sets o₁ 12 (bytesOf (map wordOf c))
@@ -146,7 +146,7 @@ module _ (c out : List ℕ) (room : 2 * length c + 14 ≤ length out) where
       let o : o₂ ≡ over (bytesOf (frontWords c)) out = p ∙ sets-over (bytesOf (frontWords c)) out (omega (arith, length-front c)) in
       ap (λ (l : List ℕ). wordsOf (take size (drop 6 l))) o ∙ ap wordsOf (covered-there c out size q) ∙ words-bytes (drop 3 (frontWords c))
 
-  pub packet-put : (o₂ o₃ : List ℕ) (check : ℕ) → o₂ ≡ sets out 0 (bytesOf (frontWords c)) → check ≡ checkOf (drop 3 (frontWords c))
+  pub packet-put : (o₂ o₃ : List ℕ) (check : ℕ) → o₂ ≡ sets out 0 (bytesOf (frontWords c)) → check ≡ checkWord (drop 3 (frontWords c))
       → o₃ ≡ sets o₂ (12 + 2 * length c) (bytesOf (check ∷ [])) → o₃ ≡ over (packetBytes c) out
   packet-put o₂ o₃ check p e q =
       sets-then out o₂ o₃ (bytesOf (frontWords c)) (bytesOf (check ∷ [])) 0 (12 + 2 * length c) p (omega (arith, length-front c)) q

@@ -7,7 +7,7 @@ use lib.Dec.{leb, eqb}
 use Rattle.laws.specs.Calls.{unless, roomNumber, doneWith, outWith}
 use Rattle.laws.specs.declared.Done.{Done}
 use Rattle.container.specs.Reading.{reading}
-use Rattle.packet.specs.Words.{wordOf, low, checkOf, wordsOf}
+use Rattle.packet.specs.Words.{wordOf, low, checkWord, wordsOf}
 
 -- whether a test holds of every word
 unfoldable pub every : (ℕ → Bool) → List ℕ → Bool
@@ -46,7 +46,7 @@ bodyNumber ws =
     unless (parityRight (getD ws 5 0)) 34
     (unless (eqb (length ws) (countOf ws + 7)) 34
     (unless (every parityRight (userWords ws)) 35
-    (unless (eqb (getD ws (countOf ws + 6) 0) (checkOf (coveredWords ws))) 36
+    (unless (eqb (getD ws (countOf ws + 6) 0) (checkWord (coveredWords ws))) 36
     0)))
 
 -- "30 odd size or a word above 3FFh; 31 under 7 words; 32 first three words; 33 fourth or fifth", then 34 to 36, or 0

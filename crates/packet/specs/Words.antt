@@ -25,8 +25,8 @@ sum9 [] = 0
 sum9 (w ∷ ws) = w % 512 + sum9 ws
 
 -- "The checksum is the sum of bits 8-0 .., modulo 512, with bit 9 the complement of its bit 8"
-unfoldable pub checkOf : List ℕ → ℕ
-checkOf ws = withBit9 (sum9 ws % 512)
+unfoldable pub checkWord : List ℕ → ℕ
+checkWord ws = withBit9 (sum9 ws % 512)
 
 -- "Words are lent as two bytes, low byte first"; a last byte with no second one is no word
 unfoldable pub bytesOf : List ℕ → List ℕ

@@ -5,7 +5,7 @@ use lib.ListN.{length, drop}
 use Rattle.laws.specs.Calls.{roomNumber, doneWith, outWith}
 use Rattle.laws.specs.declared.Done.{Done}
 use Rattle.container.specs.Reading.{reading}
-use Rattle.packet.specs.Words.{wordOf, checkOf, bytesOf}
+use Rattle.packet.specs.Words.{wordOf, checkWord, bytesOf}
 
 -- "Words 000h, 3FFh, 3FFh, 241h, 10Bh, the count"
 unfoldable pub headWords : ℕ → List ℕ
@@ -17,7 +17,7 @@ frontWords c = headWords (length c) ++ map wordOf c
 
 -- "the checksum", which covers what comes "from the fourth word to the last user word"
 unfoldable pub packetWords : List ℕ → List ℕ
-packetWords c = frontWords c ++ (checkOf (drop 3 (frontWords c)) ∷ [])
+packetWords c = frontWords c ++ (checkWord (drop 3 (frontWords c)) ∷ [])
 
 unfoldable pub packetBytes : List ℕ → List ℕ
 packetBytes c = bytesOf (packetWords c)

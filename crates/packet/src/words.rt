@@ -2,7 +2,7 @@
 ghost use mathlib.Core.Path.{_≡_};
 ghost use Prim.Native.Nat.{_+_, _*_, _<_};
 ghost use lib.ListN.{length, getD};
-ghost use Rattle.packet.specs.Words.{wordOf, wordsOf, checkOf};
+ghost use Rattle.packet.specs.Words.{wordOf, wordsOf, checkWord};
 
 // The word of a byte: bit 8 makes the number of ones in bits 8-0 even, bit 9 is the complement of bit 8.
 pub(crate) fn word_of(b: u8) -> u16
@@ -22,7 +22,7 @@ pub(crate) fn word_at(words: &[u8], k: usize) -> u16
 
 // The checksum word: the sum of bits 8-0 modulo 512, bit 9 the complement of its bit 8.
 pub(crate) fn check_of(words: &[u8]) -> u16
-    ensures { λ r. ⌜ r ≡ checkOf (wordsOf (now (words .entry))) ⌝ }
+    ensures { λ r. ⌜ r ≡ checkWord (wordsOf (now (words .entry))) ⌝ }
 {
     let mut sum: u16 = 0;
     let mut i = 0;

@@ -10,7 +10,7 @@ use lib.ListN.{length, getD, take, drop, length-drop}
 use lib.Seq.{take-all, take-suc, getD-drop}
 use Rattle.laws.specs.Bytes.{Bytes}
 use Rattle.laws.proofs.Tests.{both}
-use Rattle.packet.specs.Words.{wordOf, low, checkOf, bytesOf, wordsOf}
+use Rattle.packet.specs.Words.{wordOf, low, checkWord, bytesOf, wordsOf}
 use Rattle.packet.specs.Writing.{headWords, frontWords, packetWords, packetBytes}
 use Rattle.packet.specs.Reading.{every, parityRight, startRight, namesRight, countOf, userWords, coveredWords, frameNumber, userBytes}
 use Rattle.packet.proofs.Passed.{Passed, passed, length-user-bytes}
@@ -96,7 +96,7 @@ module _ (s : List ℕ) (right : frameNumber s ≡ 0) where
   words-again : packetWords (userBytes s) ≡ ws
   unfolding packetWords headWords
   words-again =
-      ap₂ (λ (f : List ℕ) (k : ℕ). f ++ (k ∷ [])) front (ap checkOf covered ∙ sym (p .check))
+      ap₂ (λ (f : List ℕ) (k : ℕ). f ++ (k ∷ [])) front (ap checkWord covered ∙ sym (p .check))
       ∙ sym (six ∙ ap (λ (l : List ℕ). headWords (countOf ws) ++ l) rest)
 
   pub packet-again : Bytes s → packetBytes (userBytes s) ≡ s

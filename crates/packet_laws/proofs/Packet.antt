@@ -7,7 +7,7 @@ use mathlib.Core.Bool.{Bool, true, false, cond}
 use native.Mathlib.Omega.{arith}
 use borrow.Author.Tests.{eqb-true}
 use lib.Dec.{eqb}
-use lib.ListN.{length, take}
+use lib.ListN.{length}
 use Rattle.laws.specs.Bytes.{Bytes}
 use Rattle.laws.specs.Calls.{over, doneWith}
 use Rattle.laws.proofs.Calls.{done, told-ok, told-zero, handed}
@@ -17,23 +17,17 @@ use Rattle.packet.specs.Words.{parity, withBit9, wordOf}
 use Rattle.packet.specs.Writing.{packetBytes, writeNumber, writeDone, writeOut}
 use Rattle.packet.specs.Reading.{frameNumber, userBytes, innerNumber, readNumber, readDone, readOut}
 use Rattle.packet.proofs.Passed.{inner-container}
+use Rattle.packet_laws.specs.Handed.{wrapped, unwrapped}
 use Rattle.packet_laws.proofs.There.{packet-right, packet-carries}
 use Rattle.packet_laws.proofs.Back.{packet-again}
 
--- the bytes that Write packet hands out into a buffer, and those that Read packet does
-abbrev pub written : List ℕ → List ℕ → List ℕ
-written c out = take (writeDone c (length out) .written) (writeOut c out)
-
-abbrev pub handedOut : List ℕ → List ℕ → List ℕ
-handedOut s out = take (readDone s (length out) .written) (readOut s out)
-
-written-is : (c out : List ℕ) → writeDone c (length out) .number ≡ 0 → written c out ≡ packetBytes c
+wrapped-is : (c out : List ℕ) → writeDone c (length out) .number ≡ 0 → wrapped c out ≡ packetBytes c
 unfolding writeDone writeOut doneWith
-written-is c out e = handed (writeNumber c (length out)) (packetBytes c) out e
+wrapped-is c out e = handed (writeNumber c (length out)) (packetBytes c) out e
 
-handed-out-is : (s out : List ℕ) → readDone s (length out) .number ≡ 0 → handedOut s out ≡ userBytes s
+unwrapped-is : (s out : List ℕ) → readDone s (length out) .number ≡ 0 → unwrapped s out ≡ userBytes s
 unfolding readDone readOut doneWith
-handed-out-is s out e = handed (readNumber s (length out)) (userBytes s) out e
+unwrapped-is s out e = handed (readNumber s (length out)) (userBytes s) out e
 
 -- what a call found right that ended with 0
 write-right : (c : List ℕ) (room : ℕ) → writeDone c room .number ≡ 0 → reading c .number ≡ 0
@@ -75,13 +69,13 @@ bytes-written s out bytes e room =
 
 -- "each one written reads back as the same contents"
 pub read-back : (c out back : List ℕ) → Bytes c → writeDone c (length out) .number ≡ 0 → length c ≤ length back
-    → (readDone (written c out) (length back) ≡ done 0 (length c)) × (readOut (written c out) back ≡ over c back)
-read-back c out back bytes e room = rw (written-is c out e) (packet-read c back bytes (write-right c (length out) e) room)
+    → (readDone (wrapped c out) (length back) ≡ done 0 (length c)) × (readOut (wrapped c out) back ≡ over c back)
+read-back c out back bytes e room = rw (wrapped-is c out e) (packet-read c back bytes (write-right c (length out) e) room)
 
 -- "An accepted .. packet, written again from what was read, gives its own bytes"
 pub rewritten : (s out again : List ℕ) → Bytes s → readDone s (length out) .number ≡ 0 → length s ≤ length again
-    → (writeDone (handedOut s out) (length again) ≡ done 0 (length s)) × (writeOut (handedOut s out) again ≡ over s again)
-rewritten s out again bytes e room = rw (handed-out-is s out e) (bytes-written s again bytes (read-right s (length out) e) room)
+    → (writeDone (unwrapped s out) (length again) ≡ done 0 (length s)) × (writeOut (unwrapped s out) again ≡ over s again)
+rewritten s out again bytes e room = rw (unwrapped-is s out e) (bytes-written s again bytes (read-right s (length out) e) room)
 
 -- 001, 5.1: "The DID word shall be set to the value [41h]. The SDID word shall be set to the value of [0Bh].": with their parity these are 01's 241h and 10Bh
 pub names-are-words : wordOf 0x41 ∷ wordOf 0x0B ∷ [] ≡ 0x241 ∷ 0x10B ∷ []

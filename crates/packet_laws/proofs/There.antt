@@ -10,7 +10,7 @@ use lib.ListN.{length, getD, drop, length-append, length-map}
 use lib.Seq.{take-at, getD-at}
 use Rattle.laws.specs.Bytes.{Bytes}
 use Rattle.laws.proofs.Tests.{both}
-use Rattle.packet.specs.Words.{withBit9, wordOf, low, checkOf, wordsOf}
+use Rattle.packet.specs.Words.{withBit9, wordOf, low, checkWord, wordsOf}
 use Rattle.packet.specs.Writing.{headWords, frontWords, packetWords, packetBytes}
 use Rattle.packet.specs.Reading.{every, tenBits, parityRight, startRight, namesRight, countOf, userWords, coveredWords, bodyNumber, frameNumber, userBytes}
 use Rattle.packet.proofs.Parity.{word-carries, word-low}
@@ -22,9 +22,9 @@ word-ten b h = le-leb (wordOf b) 0x3FF (omega (arith, word-carries b h .ten))
 word-parity : (b : ℕ) → b < 256 → parityRight (wordOf b) ≡ true
 word-parity b h = eq-eqb _ _ (ap wordOf (sym (word-low b h)))
 
-check-ten : (ws : List ℕ) → tenBits (checkOf ws) ≡ true
-unfolding checkOf withBit9
-check-ten ws = le-leb (checkOf ws) 0x3FF (omega arith)
+check-ten : (ws : List ℕ) → tenBits (checkWord ws) ≡ true
+unfolding checkWord withBit9
+check-ten ws = le-leb (checkWord ws) 0x3FF (omega arith)
 
 every-append : (test : ℕ → Bool) (xs ys : List ℕ) → every test xs ≡ true → every test (xs ++ ys) ≡ every test ys
 unfolding every
@@ -69,9 +69,9 @@ module _ (c : List ℕ) (bytes : Bytes c) (small : length c < 256) where
   unfolding frontWords headWords
   length-front = simp length-map (omega arith)
 
-  last : getD (packetWords c) (length c + 6) 0 ≡ checkOf (drop 3 (frontWords c))
+  last : getD (packetWords c) (length c + 6) 0 ≡ checkWord (drop 3 (frontWords c))
   unfolding packetWords
-  last = getD-at (frontWords c) (checkOf (drop 3 (frontWords c))) [] 0 (length c + 6) length-front
+  last = getD-at (frontWords c) (checkWord (drop 3 (frontWords c))) [] 0 (length c + 6) length-front
 
   ten : every tenBits (packetWords c) ≡ true
   unfolding packetWords frontWords headWords every
@@ -91,8 +91,8 @@ module _ (c : List ℕ) (bytes : Bytes c) (small : length c < 256) where
       let p : parityRight (getD (packetWords c) 5 0) ≡ true = ap parityRight sixth ∙ word-parity (length c) small in
       let n : length (packetWords c) ≡ countOf (packetWords c) + 7 = length-words ∙ ap (λ (k : ℕ). k + 7) (sym count) in
       let u : every parityRight (userWords (packetWords c)) ≡ true = ap (every parityRight) users ∙ every-word parityRight word-parity c bytes in
-      let k : getD (packetWords c) (countOf (packetWords c) + 6) 0 ≡ checkOf (coveredWords (packetWords c)) =
-      ap (λ (m : ℕ). getD (packetWords c) (m + 6) 0) count ∙ last ∙ ap checkOf (sym covered) in
+      let k : getD (packetWords c) (countOf (packetWords c) + 6) 0 ≡ checkWord (coveredWords (packetWords c)) =
+      ap (λ (m : ℕ). getD (packetWords c) (m + 6) 0) count ∙ last ∙ ap checkWord (sym covered) in
       rw (p, eq-eqb _ _ n, u, eq-eqb _ _ k)
 
   pub packet-right : frameNumber (packetBytes c) ≡ 0

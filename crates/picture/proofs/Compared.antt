@@ -1,13 +1,34 @@
 -- Laws of the comparison of two fields.
-use Prim.Native.Nat.{ℕ, zero, suc, _+_, _≤_, _<_}
+use Prim.Native.Nat.{ℕ, zero, suc, _+_, _-_, _≤_, _<_}
 use mathlib.Core.Path.{_≡_}
 use mathlib.Core.Bool.{Bool, true, false, cond}
 use mathlib.Core.List.{List, [], _∷_}
 use native.Mathlib.Omega.{arith}
+use native.Mathlib.Decide.{decLt}
+use borrow.Author.Tests.{le-leb, lt-leb}
+use lib.Dec.{leb}
 use native.Mathlib.Numerals.{add-one}
 use native.Mathlib.Nat.{le-of-suc-le-suc, not-suc-le-zero}
 use lib.ListN.{getD, length, take}
 use Rattle.picture.specs.Fields.{changedBy, changesIn}
+
+-- the byte above is 32 or more above, or it is not
+module _ (x y : ℕ) where
+  pub apart-up : x < y → leb 32 (y - x) ≡ changedBy x y
+  unfolding changedBy
+  apart-up h =
+      elim (decLt (y - x) 32) [
+        | yes k ↦ rw (lt-leb 32 (y - x) k, lt-leb (y + 32) x (omega arith), lt-leb (x + 32) y (omega arith))
+        | no n ↦ rw (le-leb 32 (y - x) (omega arith), lt-leb (y + 32) x (omega arith), le-leb (x + 32) y (omega arith))
+      ]
+
+  pub apart-down : y ≤ x → leb 32 (x - y) ≡ changedBy x y
+  unfolding changedBy
+  apart-down h =
+      elim (decLt (x - y) 32) [
+        | yes k ↦ rw (lt-leb 32 (x - y) k, lt-leb (y + 32) x (omega arith), lt-leb (x + 32) y (omega arith))
+        | no n ↦ rw (le-leb 32 (x - y) (omega arith), le-leb (y + 32) x (omega arith))
+      ]
 
 one-more : (b : Bool) → cond b 1 0 ≤ 1
 one-more true = omega arith

@@ -8,14 +8,14 @@ use lib.Dec.{eqb}
 use lib.ListN.{length}
 use borrow.Author.Tests.{eqb-true, eqb-false, eq-eqb, ne-eqb}
 use Rattle.sampling.specs.Formats.{rowOf}
-use Rattle.picture.specs.declared.Shown.{Shown}
+use Rattle.laws.specs.declared.Video.{Video}
 use Rattle.picture.specs.declared.Frame.{Frame}
-use Rattle.picture.specs.Lines.{twoFields}
+use Rattle.picture.specs.Lines.{interlaced}
 use Rattle.picture.specs.Pictures.{frameAfter}
 use Rattle.picture.specs.History.{fields, fieldTells, nextField, startsFrame, frameShows, Waiting, no-frame, a-frame}
 
 -- the frame that waits, by the picture's own values
-abbrev pub waitingOf : Bool → Shown → Waiting
+abbrev pub waitingOf : Bool → Video → Waiting
 waitingOf true s = a-frame s
 waitingOf false s = no-frame
 
@@ -44,10 +44,10 @@ module _ (f : ℕ) (fr : Frame) (ls : List (List ℕ)) (w : Waiting) (o : Framed
 
   module _ (z : suc (length ls) % 16 ≡ 0) where
     abbrev Goal : Type 0
-    Goal = Framed f (frameAfter fr (fieldTells (fields (px ∷ ls))) (twoFields (rowOf f))) (px ∷ ls) Waits
+    Goal = Framed f (frameAfter fr (fieldTells (fields (px ∷ ls))) (interlaced (rowOf f))) (px ∷ ls) Waits
 
     -- a frame of one field ends with it
-    one : twoFields (rowOf f) ≡ false → Goal
+    one : interlaced (rowOf f) ≡ false → Goal
     unfolding frameAfter fields nextField startsFrame frameShows
     one e = rw (eq-eqb _ _ z, e) (record {
       field = rw e refl;
@@ -57,7 +57,7 @@ module _ (f : ℕ) (fr : Frame) (ls : List (List ℕ)) (w : Waiting) (o : Framed
     })
 
     -- field 1 of two
-    half : twoFields (rowOf f) ≡ true → length (fields ls) % 2 ≡ 0 → Goal
+    half : interlaced (rowOf f) ≡ true → length (fields ls) % 2 ≡ 0 → Goal
     unfolding frameAfter fields nextField startsFrame frameShows
     half e y =
         let q : fr .field ≡ 1 = o .field ∙ rw (e, y) refl in
@@ -70,7 +70,7 @@ module _ (f : ℕ) (fr : Frame) (ls : List (List ℕ)) (w : Waiting) (o : Framed
         })
 
     -- field 2 of two
-    both : twoFields (rowOf f) ≡ true → (length (fields ls) % 2 ≡ 0 → ⊥) → Goal
+    both : interlaced (rowOf f) ≡ true → (length (fields ls) % 2 ≡ 0 → ⊥) → Goal
     unfolding frameAfter fields nextField startsFrame frameShows
     both e y =
         let r : length (fields ls) % 2 ≡ 1 = omega arith in
@@ -85,9 +85,9 @@ module _ (f : ℕ) (fr : Frame) (ls : List (List ℕ)) (w : Waiting) (o : Framed
         })
 
     pub framed-whole : Goal
-    framed-whole = go (twoFields (rowOf f)) (eqb (length (fields ls) % 2) 0) refl refl
+    framed-whole = go (interlaced (rowOf f)) (eqb (length (fields ls) % 2) 0) refl refl
       where
-        go : (b c : Bool) → twoFields (rowOf f) ≡ b → eqb (length (fields ls) % 2) 0 ≡ c → Goal
+        go : (b c : Bool) → interlaced (rowOf f) ≡ b → eqb (length (fields ls) % 2) 0 ≡ c → Goal
         go false c e y = one e
         go true true e y = half e (eqb-true _ _ y)
         go true false e y = both e (eqb-false _ _ y)

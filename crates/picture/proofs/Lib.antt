@@ -1,4 +1,4 @@
--- The laws of fields, frames and the call Line, and the theorems over any calls.
+-- The laws of fields, frames and the call Line over plain histories.
 pub mod Compared
 pub mod Monitored
 pub mod Judged
@@ -6,6 +6,7 @@ pub mod Rows
 pub mod Kept
 pub mod Framed
 pub mod Steps
-pub mod Runs
+pub mod Answers
 pub mod Sizes
+pub mod Says
 pub mod Unique

@@ -1,12 +1,13 @@
 -- The lines of a field, found by a division.
 use Prim.Native.Nat.{ℕ, zero, suc, _+_, _-_, _*_, _/_, _%_, _≤_, _<_}
 use mathlib.Core.Path.{_≡_, refl, sym, ap, _∙_}
-use mathlib.Core.Bool.{Bool, true, false, _||_, or-true}
+use mathlib.Core.Bool.{Bool, true, false, cond, _&&_, _||_, or-true, true≢false}
 use native.Mathlib.Omega.{arith}
 use native.Mathlib.Nat.{mul-mod-right, mul-div-cancel-left, div-add-mod}
 use lib.Dec.{ltb, eqb}
 use borrow.Author.Tests.{eqb-true, eqb-false, eq-eqb, ne-eqb, ltb-true, ltb-false}
-use Rattle.picture.specs.Lines.{among}
+use Rattle.sampling.specs.declared.Row.{Row}
+use Rattle.picture.specs.Lines.{among, interlaced, monitored}
 
 -- the lines from v on are among them, and no others
 pub among-yes : (v step k n m : ℕ) → m < k → n ≡ v + step * m → among v step k n ≡ true
@@ -46,3 +47,16 @@ module _ (v step n : ℕ) where
           let y : n - v ≡ step * m = omega arith in
           let d : (n - v) / step ≡ m = ap (λ (w : ℕ). w / step) y ∙ mul-div-cancel-left m p in
           omega (arith, ltb-false ((n - v) / step) 16 x)))
+
+-- the first line of a frame is monitored, so a line that is not monitored is not the first of a frame
+first-monitored : (r : Row) → monitored r (r .vstart1) ≡ true
+unfolding monitored
+first-monitored r = rw (among-yes (r .vstart1) (r .vstep) 16 (r .vstart1) 0 (omega arith) (omega arith)) refl
+
+pub not-first : (r : Row) (n : ℕ) → monitored r n ≡ false → eqb n (r .vstart1) ≡ false
+not-first r n m = ne-eqb n (r .vstart1) (λ e. true≢false (sym (first-monitored r) ∙ (ap (monitored r) (sym e) ∙ m)))
+
+-- and gives no 5
+pub not-five : (ready first : Bool) → first ≡ false → _≡_ {A = ℕ} (cond (ready && first) 5 0) 0
+not-five true first e = rw e refl
+not-five false first e = refl

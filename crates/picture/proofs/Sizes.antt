@@ -8,10 +8,7 @@ use lib.ListN.{length, take, length-append}
 use lib.Seq.{length-take-le}
 use borrow.Author.Tests.{eqb-true}
 use Rattle.laws.proofs.Tests.{chosen}
-use Rattle.sampling.specs.Formats.{rowOf}
-use Rattle.sampling.proofs.Filled.{sixty}
-use Rattle.picture.specs.History.{joined, fields, takes, linesAfter}
-use Rattle.picture.specs.Calls.{Call, line, restart, hand-out, Event, linesAt, lines}
+use Rattle.picture.specs.History.{joined, fields}
 
 -- lists of n bytes each
 pub data Each (n : ℕ) : List (List ℕ) → Type 0 where
@@ -38,17 +35,3 @@ fields-sized (more {l} {ls} e a) =
     let k : length (joined (take 16 (l ∷ ls))) ≡ 960 = omega (arith, joined-size (taken 16 (more {l = l} {ls = ls} e a)), length-take-le 16 (l ∷ ls) h) in
     more k (fields-sized a))
     (λ z. fields-sized a)
-
-lines-sized : (f : ℕ) (es : List Event) → Each 60 (lines f es)
-unfolding lines linesAt linesAfter
-lines-sized f [] = none
-lines-sized f (e ∷ es) = go (e .call) (lines-sized f es)
-  where
-    go : (c : Call) → Each 60 (lines f es) → Each 60 (linesAt f c (e .answer) (lines f es))
-    go (line n b) a =
-        chosen (Each 60) (takes f n (e .answer .number)) _ _ (λ t. more (sixty (rowOf f) b) a) (λ t. a)
-    go restart a = none
-    go hand-out a = a
-
-pub fields-960 : (f : ℕ) (es : List Event) → Each 960 (fields (lines f es))
-fields-960 f es = fields-sized (lines-sized f es)

@@ -13,12 +13,12 @@ use Rattle.sampling.specs.Formats.{rowOf}
 use Rattle.sampling.specs.Samples.{pixels}
 use Rattle.sampling.proofs.Filled.{sixty}
 use Rattle.picture.specs.declared.Told.the-variants.{Open}
-use Rattle.picture.specs.declared.Shown.{Shown}
-use Rattle.picture.specs.declared.Shown.the-variants.{None}
+use Rattle.laws.specs.declared.Video.{Video}
+use Rattle.laws.specs.declared.Video.the-variants.{Absent}
 use Rattle.picture.specs.declared.Picture.{Picture}
-use Rattle.picture.specs.declared.Lined.{Lined}
+use Rattle.picture.specs.declared.Scanned.{Scanned}
 use Rattle.picture.specs.declared.Handed.{Handed}
-use Rattle.picture.specs.Lines.{among, twoFields, monitored, dueLine, orderNumber, lineNumber, judgedNumber}
+use Rattle.picture.specs.Lines.{among, interlaced, monitored, dueLine, orderNumber, lineNumber, judgedNumber}
 use Rattle.picture.specs.Pictures.{freshPicture, emptyWith, isReady, restarted, handedOut, withRow, fieldEnded, taken, untouched, numberAt, lineOf}
 use Rattle.picture.specs.History.{fields, lineTells, nextField, nextLine, startsFrame, Waiting, no-frame, isWaiting, waitingShows, takes, linesAfter, waitingAfter, toldAfter, numberSaid, toldSaid}
 use Rattle.picture.proofs.Monitored.{among-yes}
@@ -36,7 +36,7 @@ pub record HandedRight (f : ℕ) (ls : List (List ℕ)) (w : Waiting) (h : Hande
   pub holds : Holds f ls no-frame (h .picture)
 
 -- a line's number is 01's, and so is what it tells; what held holds of the histories with the line
-pub record LineRight (f : ℕ) (ls : List (List ℕ)) (w : Waiting) (n : ℕ) (b : List ℕ) (r : Lined) : Type 0 where
+pub record LineRight (f : ℕ) (ls : List (List ℕ)) (w : Waiting) (n : ℕ) (b : List ℕ) (r : Scanned) : Type 0 where
   pub number : r .number ≡ numberSaid f ls w n b
   pub told : r .told ≡ toldSaid f ls (numberSaid f ls w n b) n b
   pub holds : Holds f (linesAfter f n b (r .number) ls) (waitingAfter f n (r .number) (linesAfter f n b (r .number) ls) w) (r .picture)
@@ -44,13 +44,13 @@ pub record LineRight (f : ℕ) (ls : List (List ℕ)) (w : Waiting) (n : ℕ) (b
 -- ---- no line yet
 next-none : (f : ℕ) → nextField f [] ≡ 1
 unfolding nextField fields
-next-none f = chosen (λ (x : ℕ). x ≡ 1) (twoFields (rowOf f)) _ _ (λ e. refl) (λ e. refl)
+next-none f = chosen (λ (x : ℕ). x ≡ 1) (interlaced (rowOf f)) _ _ (λ e. refl) (λ e. refl)
 
 starts-none : (f : ℕ) → startsFrame f [] ≡ true
 unfolding startsFrame
 starts-none f = rw (next-none f) refl
 
-pub empty-holds : (f : ℕ) (ready : Bool) (shown : Shown) → Holds f [] (waitingOf ready shown) (emptyWith ready shown)
+pub empty-holds : (f : ℕ) (ready : Bool) (shown : Video) → Holds f [] (waitingOf ready shown) (emptyWith ready shown)
 empty-holds f ready shown = record {
   kept = kept-none _ _ _ (length-replicate {A = ℕ} 960 0);
   framed = record {
@@ -63,7 +63,7 @@ empty-holds f ready shown = record {
 
 pub fresh-holds : (f : ℕ) → Holds f [] no-frame freshPicture
 unfolding freshPicture
-fresh-holds f = empty-holds f false None
+fresh-holds f = empty-holds f false Absent
 
 -- ---- the line expected is monitored
 module _ (f : ℕ) (ls : List (List ℕ)) where
@@ -78,9 +78,9 @@ module _ (f : ℕ) (ls : List (List ℕ)) where
 
   pub next-monitored : monitored (rowOf f) (nextLine f ls) ≡ true
   unfolding monitored nextLine dueLine nextField
-  next-monitored = go (twoFields (rowOf f)) (eqb (length (fields ls) % 2 + 1) 1) refl refl
+  next-monitored = go (interlaced (rowOf f)) (eqb (length (fields ls) % 2 + 1) 1) refl refl
     where
-      go : (b c : Bool) → twoFields r ≡ b → eqb (length (fields ls) % 2 + 1) 1 ≡ c → monitored r (nextLine f ls) ≡ true
+      go : (b c : Bool) → interlaced r ≡ b → eqb (length (fields ls) % 2 + 1) 1 ≡ c → monitored r (nextLine f ls) ≡ true
       go false c e y = rw (e, among-yes (r .vstart1) (r .vstep) 16 (r .vstart1 + r .vstep * k) k below refl) refl
       go true true e y = rw (e, y, among-yes (r .vstart1) (r .vstep) 16 (r .vstart1 + r .vstep * k) k below refl) refl
       go true false e y =
@@ -145,7 +145,7 @@ not-there true t e x = absurd (true≢false (sym (rw e refl) ∙ x))
 not-there false t e x = refl
 
 -- the field goes on
-abbrev opened : Picture → List ℕ → Lined
+abbrev opened : Picture → List ℕ → Scanned
 opened p filling = record {
   number = 0;
   told = Open;
@@ -183,11 +183,11 @@ module _ (f : ℕ) (listed : f < 8) (ls : List (List ℕ)) (w : Waiting) (p : Pi
         let a = past (eqb (length b) (2 * rowOf f .width)) 2 _ z (omega arith) in
         past (leb 1 n && leb n (rowOf f .lines)) 3 _ (a .1) (omega arith) .1
 
-    neither : ((monitored (rowOf f) n && not (eqb n (nextLine f ls))) ≡ false) × ((eqb n (nextLine f ls) && isWaiting w) ≡ false)
+    neither : ((monitored (rowOf f) n && not (eqb n (nextLine f ls))) ≡ false) × ((isWaiting w && eqb n (rowOf f .vstart1)) ≡ false)
     unfolding orderNumber
     neither =
         let a = unfired (monitored (rowOf f) n && not (eqb n (nextLine f ls))) 4 _ in-order (omega arith) in
-        (a .0, unfired (eqb n (nextLine f ls) && isWaiting w) 5 0 (a .1) (omega arith) .0)
+        (a .0, unfired (isWaiting w && eqb n (rowOf f .vstart1)) 5 0 (a .1) (omega arith) .0)
 
     skipped : eqb n (nextLine f ls) ≡ false → LineRight f ls w n b (untouched 0 p)
     unfolding takes
@@ -204,7 +204,13 @@ module _ (f : ℕ) (listed : f < 8) (ls : List (List ℕ)) (w : Waiting) (p : Pi
 
       not-ready : p .frame .ready ≡ false
       unfolding isReady
-      not-ready = ready-is f ls w p o ∙ (sym (rw e refl) ∙ neither .1)
+      not-ready = ready-is f ls w p o ∙ go (isWaiting w) refl
+        where
+          go : (b : Bool) → isWaiting w ≡ b → isWaiting w ≡ false
+          go false x = x
+          go true x =
+              let first : eqb n (rowOf f .vstart1) ≡ true = eq-eqb n (rowOf f .vstart1) (eqb-true n (nextLine f ls) e ∙ first-due f ls w p o x) in
+              absurd (true≢false (sym (rw (x, first) refl) ∙ neither .1))
 
       took-open : p .row < 15 → LineRight f ls w n b (opened p (withRow (p .filling) (p .row) px))
       unfolding toldSaid toldAfter linesAfter waitingAfter lineTells
@@ -219,7 +225,7 @@ module _ (f : ℕ) (listed : f < 8) (ls : List (List ℕ)) (w : Waiting) (p : Pi
             });
           }
 
-      took-whole : (p .row < 15 → ⊥) → LineRight f ls w n b (fieldEnded p (withRow (p .filling) (p .row) px) (twoFields (rowOf f)))
+      took-whole : (p .row < 15 → ⊥) → LineRight f ls w n b (fieldEnded p (withRow (p .filling) (p .row) px) (interlaced (rowOf f)))
       unfolding toldSaid toldAfter linesAfter waitingAfter lineTells fieldEnded
       took-whole h =
           let k : suc (length ls) % 16 ≡ 0 = omega (arith, o .kept .place) in

@@ -16,7 +16,7 @@ pub restart-unique : OneResult restart-reads.Post
 restart-unique κs a r r′ s s′ p q = one-value p q
 
 pub hand-out-unique : OneResult hand-out-reads.Post
-hand-out-unique κs a r r′ s s′ p q = one-value p q
+hand-out-unique κs a r r′ s s′ p q = one-value (p .0) (q .0)
 
 pub line-unique : OneResult line-reads.Post
-line-unique κs a r r′ s s′ p q = one-value p q
+line-unique κs a r r′ s s′ p q = one-value (p .0) (q .0)

@@ -5,9 +5,9 @@ use mathlib.Core.Bool.{true, false}
 use mathlib.Core.List.{List, _++_}
 use lib.ListN.{replicate}
 use Rattle.sampling.specs.Formats.{table, named, rowOf}
-use Rattle.picture.specs.declared.Told.the-variants.{Open, Nothing, Print}
+use Rattle.picture.specs.declared.Told.the-variants.{Open, Nothing, Value}
 use Rattle.picture.specs.Fields.{changedBy, changesIn, fingerprintOf}
-use Rattle.picture.specs.Lines.{among, twoFields, monitored, dueLine, orderNumber, lineNumber}
+use Rattle.picture.specs.Lines.{among, interlaced, monitored, dueLine, orderNumber, lineNumber}
 use Rattle.picture.specs.History.{joined, fields, fieldTells, lineTells, nextField, nextLine}
 
 -- n lines of 60 bytes x
@@ -17,9 +17,9 @@ same n x = replicate n (replicate 60 x)
 record Examples : Type 0 where
   not-ended : lineTells (same 15 32 ++ same 32 0) ≡ Open
   second-field : lineTells (same 16 32 ++ same 16 0) ≡ Nothing
-  third-field : lineTells (same 16 32 ++ (same 16 0 ++ same 16 0)) ≡ Print 240
+  third-field : lineTells (same 16 32 ++ (same 16 0 ++ same 16 0)) ≡ Value 240
   -- the preceding field plays no part
-  preceding-field : lineTells (same 16 32 ++ (same 16 0 ++ same 16 32)) ≡ Print 0
+  preceding-field : lineTells (same 16 32 ++ (same 16 0 ++ same 16 32)) ≡ Value 0
   -- 1080i: field 2 after field 1, and field 1 after field 2; 1080p: the second line of a frame
   field-2-due : nextLine 3 (same 16 0) ≡ 652
   field-1-due : nextLine 3 (same 32 0) ≡ 89
@@ -32,7 +32,7 @@ record Examples : Type 0 where
   order : (lineNumber 3 89 false 0 3839 ≡ 2) × (lineNumber 3 89 false 0 3840 ≡ 3) × (lineNumber 3 89 false 1126 3840 ≡ 3) × (lineNumber 3 89 false 113 3840 ≡ 4)
 
 examples : Examples
-unfolding changedBy changesIn fingerprintOf joined fields fieldTells lineTells nextField nextLine among twoFields monitored dueLine orderNumber lineNumber table named rowOf
+unfolding changedBy changesIn fingerprintOf joined fields fieldTells lineTells nextField nextLine among interlaced monitored dueLine orderNumber lineNumber table named rowOf
 examples = record {
   not-ended = refl;
   second-field = refl;

@@ -8,11 +8,11 @@ use lib.ListN.{length, take, drop}
 use Rattle.sampling.specs.Formats.{rowOf}
 use Rattle.sampling.specs.Samples.{pixels}
 use Rattle.picture.specs.declared.Told.{Told}
-use Rattle.picture.specs.declared.Told.the-variants.{Open, Nothing, Print}
-use Rattle.picture.specs.declared.Shown.{Shown}
-use Rattle.picture.specs.declared.Shown.the-variants.{None}
+use Rattle.picture.specs.declared.Told.the-variants.{Open, Nothing, Value}
+use Rattle.laws.specs.declared.Video.{Video}
+use Rattle.laws.specs.declared.Video.the-variants.{Absent}
 use Rattle.picture.specs.Fields.{fingerprintOf, toldValues}
-use Rattle.picture.specs.Lines.{twoFields, monitored, dueLine, lineNumber}
+use Rattle.picture.specs.Lines.{interlaced, monitored, dueLine, lineNumber}
 use Rattle.picture.specs.Pictures.{shownOne, shownTwo}
 
 -- ---- Lines and fields
@@ -32,7 +32,7 @@ unfoldable pub fieldTells : List (List ℕ) → Told
 fieldTells [] = Nothing
 fieldTells (f ∷ []) = Nothing
 fieldTells (f ∷ g ∷ []) = Nothing
-fieldTells (f ∷ g ∷ h ∷ fs) = Print (fingerprintOf f h)
+fieldTells (f ∷ g ∷ h ∷ fs) = Value (fingerprintOf f h)
 
 -- what the newest line tells: "The line that ends a field also tells its fingerprint, or that it has none"
 unfoldable pub lineTells : List (List ℕ) → Told
@@ -42,7 +42,7 @@ lineTells ls = cond (eqb (length ls % 16) 0) (fieldTells (fields ls)) Open
 
 -- the field of the next line: "field 1 before field 2"
 unfoldable pub nextField : ℕ → List (List ℕ) → ℕ
-nextField f ls = cond (twoFields (rowOf f)) (length (fields ls) % 2 + 1) 1
+nextField f ls = cond (interlaced (rowOf f)) (length (fields ls) % 2 + 1) 1
 
 -- its number, and whether it is the first of a frame
 unfoldable pub nextLine : ℕ → List (List ℕ) → ℕ
@@ -54,24 +54,24 @@ startsFrame f ls = eqb (nextField f ls) 1 && eqb (length ls % 16) 0
 -- ---- Frames
 
 -- what the newest frame shows: "exactly when the frame gave a fingerprint for each of its fields"
-unfoldable pub frameShows : ℕ → List (List ℕ) → Shown
-frameShows f fs = cond (twoFields (rowOf f)) (shownTwo (fieldTells (drop 1 fs)) (fieldTells fs)) (shownOne (fieldTells fs))
+unfoldable pub frameShows : ℕ → List (List ℕ) → Video
+frameShows f fs = cond (interlaced (rowOf f)) (shownTwo (fieldTells (drop 1 fs)) (fieldTells fs)) (shownOne (fieldTells fs))
 
 -- the fingerprints that its fields gave
 unfoldable pub frameGave : ℕ → List (List ℕ) → List ℕ
-frameGave f fs = cond (twoFields (rowOf f)) (toldValues (fieldTells (drop 1 fs)) ++ toldValues (fieldTells fs)) (toldValues (fieldTells fs))
+frameGave f fs = cond (interlaced (rowOf f)) (toldValues (fieldTells (drop 1 fs)) ++ toldValues (fieldTells fs)) (toldValues (fieldTells fs))
 
 -- the frame that waits to be packed
 pub data Waiting : Type 0 where
   no-frame : Waiting
-  a-frame : Shown → Waiting
+  a-frame : Video → Waiting
 
 unfoldable pub isWaiting : Waiting → Bool
 isWaiting no-frame = false
 isWaiting (a-frame s) = true
 
-unfoldable pub waitingShows : Waiting → Shown
-waitingShows no-frame = None
+unfoldable pub waitingShows : Waiting → Video
+waitingShows no-frame = Absent
 waitingShows (a-frame s) = s
 
 -- ---- One line more, of number n and bytes b, answered with a number

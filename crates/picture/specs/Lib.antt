@@ -3,5 +3,4 @@ pub mod Fields
 pub mod Lines
 pub mod Pictures
 pub mod History
-pub mod Calls
 pub mod Examples

@@ -12,20 +12,20 @@ among first step zero n = false
 among first step (suc k) n = eqb n (first + step * k) || among first step k n
 
 -- a frame has two fields where the table has a VStart f2
-unfoldable pub twoFields : Row → Bool
-twoFields r = not (eqb (r .vstart2) 0)
+unfoldable pub interlaced : Row → Bool
+interlaced r = not (eqb (r .vstart2) 0)
 
 -- "A field (or progressive frame) has 16 monitored lines"
 unfoldable pub monitored : Row → ℕ → Bool
-monitored r n = among (r .vstart1) (r .vstep) 16 n || (twoFields r && among (r .vstart2) (r .vstep) 16 n)
+monitored r n = among (r .vstart1) (r .vstep) 16 n || (interlaced r && among (r .vstart2) (r .vstep) 16 n)
 
 -- the line of row `row`, counted from 0, of field 1 or 2: "Monitored lines come top to bottom"
 unfoldable pub dueLine : Row → ℕ → ℕ → ℕ
 dueLine r field row = cond (eqb field 1) (r .vstart1) (r .vstart2) + r .vstep * row
 
--- "4 monitored but not the line expected; 5 first line of a frame while one is ready": while one is ready, the line expected is the first of the next frame
+-- "4 monitored but not the line expected; 5 first line of a frame while one is ready": a frame's first line is the first of its field 1
 unfoldable pub orderNumber : Row → ℕ → Bool → ℕ → ℕ
-orderNumber r due ready n = cond (monitored r n && not (eqb n due)) 4 (cond (eqb n due && ready) 5 0)
+orderNumber r due ready n = cond (monitored r n && not (eqb n due)) 4 (cond (ready && eqb n (r .vstart1)) 5 0)
 
 -- "2 length not 2 x width; 3 line not 1 to Lines; 4 ..; 5 .."
 unfoldable pub lineNumber : ℕ → ℕ → Bool → ℕ → ℕ → ℕ

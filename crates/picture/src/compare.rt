@@ -43,7 +43,7 @@ pub(crate) fn told(held: u8, field: &[u8; 960], older: &[u8; 960]) -> Told
     if held < 2 {
         return Told::Nothing;
     }
-    Told::Print(fingerprint(field, older))
+    Told::Value(fingerprint(field, older))
 }
 
 // How many fields are held once one more has ended: two are enough.

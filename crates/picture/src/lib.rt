@@ -6,20 +6,16 @@ ghost use mathlib.Core.Path.{_≡_};
 ghost use Prim.Native.Nat.{_*_, _<_};
 ghost use lib.ListN.{length};
 ghost use Rattle.sampling.specs.Formats.{rowOf};
-ghost use Rattle.picture.specs.Pictures.{emptyWith, freshPicture, isReady, restarted, handedOut, shownOne, shownTwo, frameAfter, fieldEnded, taken, lineOf};
+ghost use Rattle.picture.specs.Pictures.{emptyWith, freshPicture, isReady, restarted, handedOut, shownOne, shownTwo, frameAfter, fieldEnded, taken, lineOf, lineSays, handedValues};
+ghost use Rattle.picture.specs.Fields.{saysOf};
+ghost use Rattle.laws.specs.Video.{videoValues};
+use laws::Video;
 
 // What a line tells: the field goes on, or it ended with no fingerprint, or with this one.
 pub enum Told {
     Open,
     Nothing,
-    Print(u8),
-}
-
-// What a frame shows: no fingerprint, that of its one field, or those of its two.
-pub enum Shown {
-    None,
-    One(u8),
-    Two(u8, u8),
+    Value(u8),
 }
 
 // The frame being filled, by its field (1 or 2) and what its field 1 told, and the frame that waits to be packed, by what it shows.
@@ -27,7 +23,7 @@ pub struct Frame {
     field: u8,
     first: Told,
     ready: bool,
-    shown: Shown,
+    shown: Video,
 }
 
 // The field being filled, with the number of its rows that are there, and the two fields before it: `newer` the one just before, `older` the second
@@ -42,7 +38,7 @@ pub struct Picture {
 }
 
 // What Line answers: 01's number, what the line tells, and the picture after it.
-pub struct Lined {
+pub struct Scanned {
     pub number: u8,
     pub told: Told,
     pub picture: Picture,
@@ -51,11 +47,11 @@ pub struct Lined {
 // What handing a frame out gives: the picture after it, and what the frame shows.
 pub struct Handed {
     pub picture: Picture,
-    pub shown: Shown,
+    pub shown: Video,
 }
 
 // Nothing is held, and field 1 is expected. The frame that waits to be packed, if any, is given.
-fn empty_with(ready: bool, shown: Shown) -> Picture
+fn empty_with(ready: bool, shown: Video) -> Picture
     ensures { λ r. ⌜ r ≡ emptyWith ready shown ⌝ }
 {
     Picture {
@@ -77,7 +73,7 @@ fn empty_with(ready: bool, shown: Shown) -> Picture
 pub fn fresh() -> Picture
     ensures { λ r. ⌜ r ≡ freshPicture ⌝ }
 {
-    empty_with(false, Shown::None)
+    empty_with(false, Video::Absent)
 }
 
 // Whether a frame waits to be packed.
@@ -99,7 +95,7 @@ pub fn restart(p: Picture) -> Picture
 
 // The frame that waits is handed out, and waits no longer.
 pub fn hand_out(p: Picture) -> Handed
-    ensures { λ r. ⌜ r ≡ handedOut p ⌝ }
+    ensures { λ r. ⌜ (r ≡ handedOut p) × (videoValues (r .shown) ≡ handedValues p) ⌝ }
 {
     let f = p.frame;
     if f.ready {
@@ -109,7 +105,7 @@ pub fn hand_out(p: Picture) -> Handed
             field: f.field,
             first: first,
             ready: false,
-            shown: Shown::None,
+            shown: Video::Absent,
         };
         let mut q = p;
         q.frame = packed;
@@ -120,32 +116,32 @@ pub fn hand_out(p: Picture) -> Handed
     }
     Handed {
         picture: p,
-        shown: Shown::None,
+        shown: Video::Absent,
     }
 }
 
 // What a frame of one field shows.
-fn shown_one(told: Told) -> Shown
+fn shown_one(told: Told) -> Video
     ensures { λ r. ⌜ r ≡ shownOne told ⌝ }
 {
     match told {
-        Told::Open => Shown::None,
-        Told::Nothing => Shown::None,
-        Told::Print(a) => Shown::One(a),
+        Told::Open => Video::Absent,
+        Told::Nothing => Video::Absent,
+        Told::Value(a) => Video::One(a),
     }
 }
 
 // What a frame of two fields shows.
-fn shown_two(first: Told, second: Told) -> Shown
+fn shown_two(first: Told, second: Told) -> Video
     ensures { λ r. ⌜ r ≡ shownTwo first second ⌝ }
 {
     match first {
-        Told::Open => Shown::None,
-        Told::Nothing => Shown::None,
-        Told::Print(a) => match second {
-            Told::Open => Shown::None,
-            Told::Nothing => Shown::None,
-            Told::Print(b) => Shown::Two(a, b),
+        Told::Open => Video::Absent,
+        Told::Nothing => Video::Absent,
+        Told::Value(a) => match second {
+            Told::Open => Video::Absent,
+            Told::Nothing => Video::Absent,
+            Told::Value(b) => Video::Two(a, b),
         },
     }
 }
@@ -161,7 +157,7 @@ fn frame_after(f: Frame, told: Told, two: bool) -> Frame
                 field: 2,
                 first: told,
                 ready: false,
-                shown: Shown::None,
+                shown: Video::Absent,
             };
         }
         return Frame {
@@ -180,7 +176,7 @@ fn frame_after(f: Frame, told: Told, two: bool) -> Frame
 }
 
 // The field being filled is whole. It is compared with the older one, and only then do the slots move.
-fn end_field(p: Picture, filling: [u8; 960], two: bool) -> Lined
+fn end_field(p: Picture, filling: [u8; 960], two: bool) -> Scanned
     ensures { λ r. ⌜ r ≡ fieldEnded p filling two ⌝ }
 {
     let older = p.older;
@@ -188,7 +184,7 @@ fn end_field(p: Picture, filling: [u8; 960], two: bool) -> Lined
     let f = p.frame;
     let told = compare::told(p.held, &filling, &older);
     let frame = frame_after(f, told, two);
-    Lined {
+    Scanned {
         number: 0,
         told: told,
         picture: Picture {
@@ -203,7 +199,7 @@ fn end_field(p: Picture, filling: [u8; 960], two: bool) -> Lined
 }
 
 // The line that is due gives the next row of the field being filled; the 16th ends the field.
-fn take(p: Picture, format: u8, line: &[u8]) -> Lined
+fn take(p: Picture, format: u8, line: &[u8]) -> Scanned
     requires { ⌜ (p .row < 16) × ((format < 8) × (length (now line) ≡ 2 * rowOf format .width)) ⌝ }
     ensures { λ r. ⌜ r ≡ taken p format (now (line .entry)) ⌝ }
 {
@@ -216,7 +212,7 @@ fn take(p: Picture, format: u8, line: &[u8]) -> Lined
         let mut q = p;
         q.filling = filling;
         q.row = row + 1;
-        return Lined {
+        return Scanned {
             number: 0,
             told: Told::Open,
             picture: q,
@@ -227,21 +223,21 @@ fn take(p: Picture, format: u8, line: &[u8]) -> Lined
 }
 
 // 01's call Line, on a picture whose format is given.
-pub fn line(p: Picture, format: u8, number: usize, line: &[u8]) -> Lined
-    ensures { λ r. ⌜ r ≡ lineOf p format number (now (line .entry)) ⌝ }
+pub fn line(p: Picture, format: u8, number: usize, line: &[u8]) -> Scanned
+    ensures { λ r. ⌜ (r ≡ lineOf p format number (now (line .entry))) × (saysOf (r .number) (r .told) ≡ lineSays p format number (now (line .entry))) ⌝ }
 {
     let f = p.frame;
     let row = p.row;
     let refusal = order::judge(format, f.field, row, f.ready, number, line.len());
     if refusal != 0 {
-        return Lined {
+        return Scanned {
             number: refusal,
             told: Told::Open,
             picture: p,
         };
     }
     if number != order::due_line(sampling::row_of(format), f.field, row) {
-        return Lined {
+        return Scanned {
             number: 0,
             told: Told::Open,
             picture: p,

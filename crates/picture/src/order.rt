@@ -47,14 +47,16 @@ fn in_order(r: Row, due: usize, ready: bool, number: usize) -> u8
     requires { ⌜ 0 < r .vstep ⌝ }
     ensures { λ n. ⌜ n ≡ orderNumber r due ready number ⌝ }
 {
-    if number == due {
-        if ready {
-            return 5;
+    if number != due {
+        if is_monitored(r, number) {
+            return 4;
         }
         return 0;
     }
-    if is_monitored(r, number) {
-        return 4;
+    if number == r.vstart1 {
+        if ready {
+            return 5;
+        }
     }
     0
 }

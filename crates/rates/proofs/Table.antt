@@ -10,25 +10,35 @@ use lib.Dec.{leb, ltb}
 use lib.ListN.{length, getD, drop, replicate, List·getD-eq-default}
 use lib.Seq.{getD-drop}
 use borrow.Author.Tests.{leb-true, lt-ltb, le-ltb}
+use Rattle.laws.specs.Sums.{sum}
+use Rattle.laws.proofs.Lists.{getD-padded}
 use Rattle.laws.proofs.Tests.{both}
 use Rattle.rates.specs.Rates.{rateListed}
-use Rattle.rates.specs.Cadence.{cadences, cadence, frames, from, among, placeAfter}
+use Rattle.rates.specs.Cadence.{cadences, cadence, frames, from, held, rowHeld, cycles, cycleBytes, sums, placeAfter}
+use Rattle.laws.specs.Lists.{isOneOf}
 
--- a row as the code holds it: 40 places
-abbrev pub padded : List ℕ → List ℕ
-padded l = l ++ replicate (40 - length l) 0
+-- within a list the default does not matter
+getD-within : (ls : List (List ℕ)) (k : ℕ) (y z : List ℕ) → k < length ls → getD ls k y ≡ getD ls k z
+getD-within [] k y z h = absurd (not-suc-le-zero h)
+getD-within (l ∷ ls) zero y z h = refl
+getD-within (l ∷ ls) (suc k) y z h = getD-within ls k y z (le-of-suc-le-suc h)
 
-getD-zeros : (m i : ℕ) → _≡_ {A = ℕ} (getD (replicate m 0) i 0) 0
-getD-zeros zero i = refl
-getD-zeros (suc m) zero = refl
-getD-zeros (suc m) (suc i) = getD-zeros m i
+sum-at : (ls : List (List ℕ)) (k : ℕ) (z : List ℕ) → k < length ls → sum (getD ls k z) ≡ getD (map sum ls) k 0
+sum-at [] k z h = absurd (not-suc-le-zero h)
+sum-at (l ∷ ls) zero z h = refl
+sum-at (l ∷ ls) (suc k) z h = sum-at ls k z (le-of-suc-le-suc h)
 
-getD-padded : (l : List ℕ) (m i : ℕ) → getD (l ++ replicate m 0) i 0 ≡ getD l i 0
-getD-padded [] m i = getD-zeros m i
-getD-padded (x ∷ l) m zero = refl
-getD-padded (x ∷ l) m (suc i) = getD-padded l m i
+-- the rows as they are held, and what each makes in one cycle
+pub row-none : (code : ℕ) → 12 ≤ code → (replicate 40 0 ≡ rowHeld code) × (sum (replicate 40 0) ≡ cycleBytes code)
+unfolding rowHeld cycleBytes cycles cadences sum
+row-none code h = (sym (List·getD-eq-default (map held cadences) (replicate 40 0) h), sym (List·getD-eq-default cycles 0 h))
 
-pub at-row : (ls : List (List ℕ)) (k i : ℕ) (z : List ℕ) → k < length ls → getD (getD (map padded ls) k z) i 0 ≡ getD (getD ls k []) i 0
+pub row-held : (code : ℕ) (z : List ℕ) → code < 12 → (getD (map held cadences) code z ≡ rowHeld code) × (sum (getD (map held cadences) code z) ≡ cycleBytes code)
+unfolding rowHeld cycleBytes cadences
+row-held code z h = (getD-within (map held cadences) code z (replicate 40 0) h, sum-at (map held cadences) code z h ∙ ap (λ (l : List ℕ). getD l code 0) sums)
+
+pub at-row : (ls : List (List ℕ)) (k i : ℕ) (z : List ℕ) → k < length ls → getD (getD (map held ls) k z) i 0 ≡ getD (getD ls k []) i 0
+unfolding held
 at-row [] k i z h = absurd (not-suc-le-zero h)
 at-row (l ∷ ls) zero i z h = getD-padded l (40 - length l) i
 at-row (l ∷ ls) (suc k) i z h = at-row ls k i z (le-of-suc-le-suc h)
@@ -66,7 +76,7 @@ row-fits (l ∷ ls) e zero =
 row-fits (l ∷ ls) e (suc k) = row-fits ls (both (leb (length l) 40 && fitting l) (all-fitting ls) e .1) k
 
 cadence-fits : (code : ℕ) → (length (cadence code) ≤ 40) × (fitting (cadence code) ≡ true)
-unfolding cadence cadences frames from among
+unfolding cadence cadences frames from isOneOf
 cadence-fits code = row-fits cadences refl code
 
 -- no cadence has more than 40 frames
@@ -91,7 +101,7 @@ some-at (l ∷ ls) e (suc k) h = some-at ls (both (leb 1 (length l)) (all-some l
 
 -- a listed rate has a cadence
 pub some-frames : (code : ℕ) → rateListed code ≡ true → 0 < length (cadence code)
-unfolding rateListed cadence cadences frames from among
+unfolding rateListed cadence cadences frames from isOneOf
 some-frames code e =
     let p = both (leb 2 code) (leb code 11) e in
     let l = leb-true 2 code (p .0) in

@@ -1,21 +1,18 @@
 -- The audio bytes of each frame (000, Table 13, in the words of 01's table), and what holds of every cadence.
-use Prim.Native.Nat.{ℕ, zero, suc, _+_, _*_}
+use Prim.Native.Nat.{ℕ, zero, suc, _+_, _-_, _*_}
 use mathlib.Core.Path.{_≡_, refl}
 use mathlib.Core.Bool.{Bool, true, false, cond, _||_}
-use mathlib.Core.List.{List, [], _∷_, map}
+use mathlib.Core.List.{List, [], _∷_, _++_, map}
 use lib.Dec.{ltb, eqb}
 use lib.ListN.{length, getD, replicate}
+use Rattle.laws.specs.Lists.{isOneOf}
 use Rattle.laws.specs.Sums.{sum}
 use Rattle.rates.specs.Rates.{intervals}
-
-unfoldable pub among : ℕ → List ℕ → Bool
-among k [] = false
-among k (x ∷ l) = eqb k x || among k l
 
 -- count frames from frame k on: few bytes at the frames named, else many
 unfoldable pub from : ℕ → ℕ → ℕ → List ℕ → ℕ → List ℕ
 from k zero few named many = []
-from k (suc count) few named many = cond (among k named) few many ∷ from (suc k) count few named many
+from k (suc count) few named many = cond (isOneOf k named) few many ∷ from (suc k) count few named many
 
 -- "16 frames: 4 at frames 1, 6, 11, else 5": frames count from 1
 unfoldable pub frames : ℕ → ℕ → List ℕ → ℕ → List ℕ
@@ -47,9 +44,23 @@ placeAfter code place = cond (ltb (place + 1) (length (cadence code))) (place + 
 
 -- ---- what holds of every row
 
--- each row's bytes in one cycle
-pub sums : map sum cadences ≡ 0 ∷ 0 ∷ 77 ∷ 5 ∷ 77 ∷ 24 ∷ 77 ∷ 4 ∷ 5 ∷ 12 ∷ 77 ∷ 2 ∷ []
-unfolding sum cadences frames from among
+-- a row as the code holds it: 40 places, with zeros after the cadence
+unfoldable pub held : List ℕ → List ℕ
+held l = l ++ replicate (40 - length l) 0
+
+unfoldable pub rowHeld : ℕ → List ℕ
+rowHeld code = getD (map held cadences) code (replicate 40 0)
+
+-- each row's bytes in one cycle, by the rate code
+unfoldable pub cycles : List ℕ
+cycles = 0 ∷ 0 ∷ 77 ∷ 5 ∷ 77 ∷ 24 ∷ 77 ∷ 4 ∷ 5 ∷ 12 ∷ 77 ∷ 2 ∷ []
+
+unfoldable pub cycleBytes : ℕ → ℕ
+cycleBytes code = getD cycles code 0
+
+-- "each row's sum proved in one computed test": of the rows as they are held
+pub sums : map sum (map held cadences) ≡ cycles
+unfolding sum held cycles cadences frames from isOneOf
 sums = refl
 
 -- frames a second, as a fraction: 23.98 is 24,000/1,001, and so its kin
@@ -85,5 +96,5 @@ balanced (l ∷ ls) (d ∷ ds) (r ∷ rs) = eqb (8 * d * sum l * r .num) (48000 
 
 -- over a cycle no sample is lost and none made
 pub all-balanced : balanced cadences intervals rates ≡ replicate 12 true
-unfolding balanced sum cadences frames from among
+unfolding balanced sum cadences frames from isOneOf
 all-balanced = refl

@@ -2,7 +2,8 @@
 ghost use mathlib.Core.Path.{_≡_};
 ghost use lib.ListN.{length, getD};
 ghost use Rattle.rates.specs.Rates.{rateListed, intervalOf, twoFields, pairsWith};
-ghost use Rattle.rates.specs.Cadence.{cadence, placeAfter};
+ghost use Rattle.rates.specs.Cadence.{cadence, rowHeld, cycleBytes, placeAfter};
+ghost use Rattle.laws.specs.Sums.{sum};
 ghost use Rattle.rates.specs.Mixes.{mixListed};
 
 mod table13;
@@ -33,6 +34,16 @@ pub fn interval(code: u8) -> u8
     INTERVALS[code as usize]
 }
 
+// A row of Table 13 as it is held, zeros after its cadence, with what one cycle of it makes; all zero for a code that is not listed.
+fn row(code: u8) -> [u8; 40]
+    ensures { λ r. ⌜ (r ≡ rowHeld code) × (sum r ≡ cycleBytes code) ⌝ }
+{
+    if 12 <= code {
+        return [0; 40];
+    }
+    table13::CADENCES[code as usize]
+}
+
 // The audio bytes that the frame at a place of the cadence asks for, places counted from 0; 0 where the cadence has no such place.
 pub fn bytes_due(code: u8, place: u8) -> u8
     ensures { λ r. ⌜ r ≡ getD (cadence code) place 0 ⌝ }
@@ -43,7 +54,8 @@ pub fn bytes_due(code: u8, place: u8) -> u8
     if 40 <= place {
         return 0;
     }
-    table13::CADENCES[code as usize][place as usize]
+    let row = row(code);
+    row[place as usize]
 }
 
 // How many frames a cadence has; 0 for a code that is not listed.

@@ -1,13 +1,12 @@
 // What a container says, in one line of text (01, "Figures to check against": the program's line).
 ghost use mathlib.Core.Path.{_≡_};
-ghost use mathlib.Core.Bool.{cond};
 ghost use lib.ListN.{length};
 ghost use lib.Seq.{sets};
 ghost use Rattle.container.specs.Reading.{reading};
 ghost use Rattle.text.specs.Lines.{Put};
 ghost use Rattle.report.specs.Report.{videoText, acceptedText, refusedText, reported, inspected};
 use container::Contents;
-use container::Video;
+use laws::Video;
 
 fn put_video(v: Video, out: &mut [u8], at: usize) -> usize
     ensures { λ r. ⌜ Put (now (out .entry)) at (videoText v) (now (out .exit)) r ⌝ }
@@ -26,12 +25,6 @@ fn put_video(v: Video, out: &mut [u8], at: usize) -> usize
     }
 }
 
-fn id_flag(present: bool) -> u64
-    ensures { λ r. ⌜ r ≡ cond present 1 0 ⌝ }
-{
-    if present { 1 } else { 0 }
-}
-
 fn put_accepted(c: Contents, out: &mut [u8]) -> usize
     ensures { λ r. ⌜ Put (now (out .entry)) 0 (acceptedText c) (now (out .exit)) r ⌝ }
 {
@@ -39,7 +32,7 @@ fn put_accepted(c: Contents, out: &mut [u8]) -> usize
     let video = c.video;
     let a = text::put_item(b"ok seq ", c.counter as u64, out, 0);
     let b = text::put_item(b" rate ", c.rate as u64, out, a);
-    let i = text::put_item(b" id ", id_flag(present), out, b);
+    let i = text::put_item(b" id ", laws::flag(present) as u64, out, b);
     let v = put_video(video, out, i);
     let s = text::put_item(b" audio ", c.count as u64, out, v);
     text::put(b"\n", out, s)

@@ -7,24 +7,24 @@ use native.Mathlib.Omega.{arith}
 use borrow.Author.Tests.{leb-true, le-leb, lt-leb, eq-eqb, ne-eqb}
 use lib.Dec.{leb, eqb}
 use lib.ListN.{length, getD}
-use Rattle.laws.proofs.Tests.{both, chosen}
+use Rattle.laws.proofs.Tests.{both}
 use Rattle.laws.specs.declared.Done.{Done}
 use Rattle.rates.specs.Rates.{pairsWith, intervalOf}
-use Rattle.rates.specs.Cadence.{placeAfter}
 use Rattle.picture.specs.declared.Told.the-variants.{Open}
 use Rattle.picture.specs.declared.Picture.{Picture}
-use Rattle.picture.specs.declared.Lined as picture-lined
+use Rattle.picture.specs.declared.Scanned as scanned
 use Rattle.picture.specs.Pictures.{restarted, isReady}
 use Rattle.picture.specs.Pictures as picture
+use Rattle.picture.specs.Fields.{toldValues, toldEnded, saysOf}
 use Rattle.fingerprint.specs.declared.Fingerprint.{Fingerprint}
 use Rattle.fingerprint.specs.State.{heardOf, soundNumber}
 use Rattle.container.specs.declared.Contents.{Contents}
 use Rattle.container.specs.Writing.{writeDone, writeOut}
 use Rattle.session.specs.declared.Settings.{Settings}
 use Rattle.session.specs.declared.Session.{Session}
-use Rattle.session.specs.Prints.{allListed, each, cleared}
-use Rattle.session.specs.Session.{isSet, setupNumber, setUpWith, emptySession, setupOf, withPicture, lineOf, noPrint, withPrint, soundedNumber, soundOf, videoRestarted, audioAnew, audioRestarted}
-use Rattle.session.specs.Packing.{hasAudio, spokenOf, placeFrom, contentsOf, sessionAfter, packNumber, refusedWith, packOf, packOut}
+use Rattle.session.specs.Fingerprints.{allListed, each, cleared}
+use Rattle.session.specs.Session.{isSet, setupNumber, setUpWith, emptySession, setupOf, withPicture, lineOf, lineSays, noFingerprint, withFingerprint, soundedNumber, soundOf, videoRestarted, audioAnew, audioRestarted}
+use Rattle.session.specs.Packing.{contentsOf, sessionAfter, readyNumber, packNumber, refusedWith, packOf, packOut}
 
 -- settings of an accepted setup have at most 32 fingerprints
 pub set-count : (s : Settings) → isSet s ≡ true → s .count ≤ 32
@@ -61,14 +61,17 @@ module _ (s : Session) where
 
   -- ---- Line
 
-  pub line-1 : set ≡ false → (n : ℕ) (b : List ℕ) → record { number = 1; told = Open; session = s } ≡ lineOf s n b
-  unfolding lineOf
-  line-1 e n b = rw e
+  pub line-1 : set ≡ false → (n : ℕ) (b : List ℕ) → (record { number = 1; told = Open; session = s } ≡ lineOf s n b) × (saysOf 1 Open ≡ lineSays s n b)
+  unfolding lineOf lineSays toldEnded toldValues
+  line-1 e n b = (rw e, rw e)
 
-  pub line-set : set ≡ true → (n : ℕ) (b : List ℕ) (r : picture-lined.Lined) → r ≡ picture.lineOf (s .programme .picture) (s .programme .settings .format) n b
-      → record { number = r .number; told = r .told; session = withPicture s (r .picture) } ≡ lineOf s n b
-  unfolding lineOf
-  line-set e n b r p = rw (e, ← p)
+  pub line-set : set ≡ true → (n : ℕ) (b : List ℕ) (r : scanned.Scanned)
+      → let p = s .programme .picture in
+      let f = s .programme .settings .format in
+      (r ≡ picture.lineOf p f n b) × (saysOf (r .number) (r .told) ≡ picture.lineSays p f n b)
+      → (record { number = r .number; told = r .told; session = withPicture s (r .picture) } ≡ lineOf s n b) × (saysOf (r .number) (r .told) ≡ lineSays s n b)
+  unfolding lineOf lineSays
+  line-set e n b r p = (rw (e, ← p .0), rw (e, ← p .1))
 
   -- ---- Sound
 
@@ -82,16 +85,16 @@ module _ (s : Session) where
     sound-7 h = rw (e, le-leb (s .programme .settings .count) k h)
 
     module _ (h : k < s .programme .settings .count) (d : ℕ) (p : d ≡ intervalOf (s .programme .settings .rate)) where
-      judged : soundNumber d (getD (s .prints) k noPrint) (length b) ≡ soundedNumber s k (length b)
+      judged : soundNumber d (getD (s .fingerprints) k noFingerprint) (length b) ≡ soundedNumber s k (length b)
       unfolding soundedNumber
       judged = rw (e, lt-leb (s .programme .settings .count) k h, p)
 
-      pub sound-8-9 : (n : ℕ) → n ≡ soundNumber d (getD (s .prints) k noPrint) (length b) → (n ≡ 0 → ⊥) → record { number = n; session = s } ≡ soundOf s k b
+      pub sound-8-9 : (n : ℕ) → n ≡ soundNumber d (getD (s .fingerprints) k noFingerprint) (length b) → (n ≡ 0 → ⊥) → record { number = n; session = s } ≡ soundOf s k b
       unfolding soundOf
       sound-8-9 n q f = let z : n ≡ soundedNumber s k (length b) = q ∙ judged in rw (← z, ne-eqb n 0 f)
 
-      pub sound-0 : soundNumber d (getD (s .prints) k noPrint) (length b) ≡ 0 → (f : Fingerprint) → f ≡ heardOf d (getD (s .prints) k noPrint) b
-          → record { number = 0; session = withPrint s k f } ≡ soundOf s k b
+      pub sound-0 : soundNumber d (getD (s .fingerprints) k noFingerprint) (length b) ≡ 0 → (f : Fingerprint) → f ≡ heardOf d (getD (s .fingerprints) k noFingerprint) b
+          → record { number = 0; session = withFingerprint s k f } ≡ soundOf s k b
       unfolding soundOf
       sound-0 q f r = rw (← judged, q, ← p, ← r)
 
@@ -115,33 +118,13 @@ module _ (s : Session) where
 
   -- ---- Pack
 
-  pub spoken-all : hasAudio s ≡ true → s .programme .settings .count ≡ spokenOf s
-  unfolding spokenOf
-  spoken-all e = rw e
-
-  pub spoken-none : hasAudio s ≡ false → 0 ≡ spokenOf s
-  unfolding spokenOf
-  spoken-none e = rw e
-
-  pub spoken-most : s .programme .settings .count ≤ 32 → spokenOf s ≤ 32
-  unfolding spokenOf
-  spoken-most h = chosen (λ (n : ℕ). n ≤ 32) (hasAudio s) _ _ (λ _. h) (λ _. omega arith)
-
-  pub place-moves : hasAudio s ≡ true → placeAfter (s .programme .settings .rate) (s .programme .place) ≡ placeFrom s
-  unfolding placeFrom
-  place-moves e = rw e
-
-  pub place-stays : hasAudio s ≡ false → s .programme .place ≡ placeFrom s
-  unfolding placeFrom
-  place-stays e = rw e
-
   module _ (a : set ≡ true) (b : isReady (s .programme .picture) ≡ true) (n : ℕ) where
     pub pack-fits : (eqb n 0 || eqb n 20) ≡ true → 0 ≡ packNumber s n
-    unfolding packNumber
+    unfolding packNumber readyNumber
     pack-fits e = rw (a, b, e)
 
     pub pack-11 : (eqb n 0 || eqb n 20) ≡ false → 11 ≡ packNumber s n
-    unfolding packNumber
+    unfolding packNumber readyNumber
     pack-11 e = rw (a, b, e)
 
   module _ (id out : List ℕ) where
@@ -165,7 +148,7 @@ module _ (s : Session) where
 
   -- what Pack packs is set
   pub pack-set : (n : ℕ) → packNumber s n ≡ 0 → set ≡ true
-  unfolding packNumber
+  unfolding packNumber readyNumber
   pack-set n e = go set (isReady (s .programme .picture)) refl e
     where
       go : (a b : Bool) → set ≡ a → _≡_ {A = ℕ} (cond a (cond b (cond (eqb n 0 || eqb n 20) 0 11) 10) 1) 0 → set ≡ true

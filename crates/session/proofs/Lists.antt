@@ -12,7 +12,7 @@ use Rattle.fingerprint.specs.declared.Fingerprint.{Fingerprint}
 use Rattle.fingerprint.specs.State.{freshOf, holdsOf}
 use Rattle.rates.specs.Mixes.{mixListed}
 use Rattle.container.specs.declared.Print.{Print}
-use Rattle.session.specs.Prints.{allListed, each, allHold, printOf, printsOf}
+use Rattle.session.specs.Fingerprints.{allListed, each, allHold, printOf, printsOf}
 
 pub listed-step : (ms : List ℕ) (i : ℕ) → i < length ms → allListed (drop i ms) ≡ (mixListed (getD ms i 0) && allListed (drop (i + 1) ms))
 unfolding allListed
@@ -38,6 +38,13 @@ module _ (g : Fingerprint → Fingerprint) (d : Fingerprint) where
 
   pub each-more : (n : ℕ) (fs : List Fingerprint) → n < length fs → set (each g n fs) n (g (getD (each g n fs) n d)) ≡ each g (n + 1) fs
   each-more n fs h = rw add-one (suc-each n fs h)
+
+  -- those from place n on are as they were
+  pub each-at : (n : ℕ) (fs : List Fingerprint) → getD (each g n fs) n d ≡ getD fs n d
+  unfolding each
+  each-at zero fs = refl
+  each-at (suc n) [] = refl
+  each-at (suc n) (f ∷ fs) = each-at n fs
 
 pub each-length : (g : Fingerprint → Fingerprint) (n : ℕ) (fs : List Fingerprint) → length (each g n fs) ≡ length fs
 unfolding each

@@ -12,7 +12,7 @@ pub setup-unique : OneResult setup-reads.Post
 setup-unique κs a r r′ s s′ p q = one-value p q
 
 pub line-unique : OneResult line-reads.Post
-line-unique κs a r r′ s s′ p q = one-value p q
+line-unique κs a r r′ s s′ p q = one-value (p .0) (q .0)
 
 pub sound-unique : OneResult sound-reads.Post
 sound-unique κs a r r′ s s′ p q = one-value p q

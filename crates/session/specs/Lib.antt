@@ -1,3 +1,3 @@
-pub mod Prints
+pub mod Fingerprints
 pub mod Session
 pub mod Packing

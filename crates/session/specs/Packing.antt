@@ -7,24 +7,15 @@ use lib.ListN.{length, getD, replicate}
 use Rattle.laws.specs.Calls.{unless}
 use Rattle.laws.specs.declared.Done.{Done}
 use Rattle.rates.specs.Cadence.{cadence, placeAfter}
-use Rattle.picture.specs.declared.Shown.{Shown}
-use Rattle.picture.specs.declared.Shown.the-variants.{None, One, Two}
 use Rattle.picture.specs.Pictures.{isReady, handedOut}
-use Rattle.container.specs.declared.Video.{Video}
-use Rattle.container.specs.declared.Video.the-variants as values
 use Rattle.container.specs.declared.Contents.{Contents}
 use Rattle.container.specs.Writing.{writeDone, writeOut}
 use Rattle.session.specs.declared.Programme.{Programme}
 use Rattle.session.specs.declared.Session.{Session}
 use Rattle.session.specs.declared.Packed.{Packed}
-use Rattle.session.specs.Prints.{each, shed, allHold, printsOf, withBlanks}
+use Rattle.session.specs.declared.packing.Packing.{Packing}
+use Rattle.session.specs.Fingerprints.{each, shed, allHold, printsOf, withBlanks}
 use Rattle.session.specs.Session.{isSet}
-
--- "Video is present exactly when the frame gave a fingerprint for each of its fields"
-unfoldable pub videoOf : Shown → Video
-videoOf None = values.Absent
-videoOf (One a) = values.One a
-videoOf (Two a b) = values.Two a b
 
 -- "The ID part is present if 20 bytes are lent for it"
 unfoldable pub idOf : List ℕ → List ℕ
@@ -36,11 +27,14 @@ dueOf p = getD (cadence (p .settings .rate)) (p .place) 0
 
 -- "Audio is present exactly when every fingerprint holds the whole bytes the cadence asks for"
 unfoldable pub hasAudio : Session → Bool
-hasAudio s = allHold (dueOf (s .programme)) (s .programme .settings .count) (s .prints)
+hasAudio s = allHold (dueOf (s .programme)) (s .programme .settings .count) (s .fingerprints)
 
 -- the fingerprints that the container has: all or none
+abbrev pub spokenWith : Bool → ℕ → ℕ
+spokenWith audio count = cond audio count 0
+
 unfoldable pub spokenOf : Session → ℕ
-spokenOf s = cond (hasAudio s) (s .programme .settings .count) 0
+spokenOf s = spokenWith (hasAudio s) (s .programme .settings .count)
 
 -- what the container says
 unfoldable pub contentsOf : Session → List ℕ → Contents
@@ -50,9 +44,9 @@ contentsOf s id =
       rate = s .programme .settings .rate;
       hasid = eqb (length id) 20;
       id = idOf id;
-      video = videoOf (handedOut (s .programme .picture) .shown);
+      video = handedOut (s .programme .picture) .shown;
       count = spokenOf s;
-      prints = withBlanks (printsOf (dueOf (s .programme)) 0 (spokenOf s) (s .prints));
+      prints = withBlanks (printsOf (dueOf (s .programme)) 0 (spokenOf s) (s .fingerprints));
     }
 
 -- "grows by one per container, and goes from 255 to 0"
@@ -60,8 +54,11 @@ unfoldable pub counterAfter : ℕ → ℕ
 counterAfter counter = (counter + 1) % 256
 
 -- "and the cadence moves on. Otherwise neither moves"
+abbrev pub placeWith : Bool → ℕ → ℕ → ℕ
+placeWith audio rate place = cond audio (placeAfter rate place) place
+
 unfoldable pub placeFrom : Session → ℕ
-placeFrom s = cond (hasAudio s) (placeAfter (s .programme .settings .rate) (s .programme .place)) (s .programme .place)
+placeFrom s = placeWith (hasAudio s) (s .programme .settings .rate) (s .programme .place)
 
 -- the session once the container is packed; the frame is no longer ready
 unfoldable pub sessionAfter : Session → Session
@@ -73,16 +70,20 @@ sessionAfter s =
         counter = counterAfter (s .programme .counter);
         place = placeFrom s;
       };
-      prints = each (shed (dueOf (s .programme))) (spokenOf s) (s .prints);
+      fingerprints = each (shed (dueOf (s .programme))) (spokenOf s) (s .fingerprints);
     }
 
--- 1 for an empty session; "10 no ready frame; 11 ID length neither 0 nor 20"
+-- both, which the code makes together
+unfoldable pub packingOf : Session → List ℕ → Packing
+packingOf s id = record { contents = contentsOf s id; session = sessionAfter s }
+
+-- "10 no ready frame; 11 ID length neither 0 nor 20"
+unfoldable pub readyNumber : Bool → ℕ → ℕ
+readyNumber ready idLength = unless ready 10 (unless (eqb idLength 0 || eqb idLength 20) 11 0)
+
+-- 1 for an empty session first
 unfoldable pub packNumber : Session → ℕ → ℕ
-packNumber s idLength =
-    unless (isSet (s .programme .settings)) 1
-    (unless (isReady (s .programme .picture)) 10
-    (unless (eqb idLength 0 || eqb idLength 20) 11
-    0))
+packNumber s idLength = unless (isSet (s .programme .settings)) 1 (readyNumber (isReady (s .programme .picture)) idLength)
 
 abbrev pub refusedWith : ℕ → Session → Packed
 refusedWith number s = record { number = number; written = 0; session = s }

@@ -9,6 +9,7 @@ use Rattle.rates.specs.Rates.{pairsWith, intervalOf}
 use Rattle.picture.specs.declared.Picture.{Picture}
 use Rattle.picture.specs.declared.Told.the-variants.{Open}
 use Rattle.picture.specs.Pictures.{freshPicture, restarted}
+use Rattle.picture.specs.Fields.{Says}
 use Rattle.picture.specs.Pictures as picture
 use Rattle.fingerprint.specs.declared.Fingerprint.{Fingerprint}
 use Rattle.fingerprint.specs.State.{heardOf, soundNumber}
@@ -18,7 +19,7 @@ use Rattle.session.specs.declared.Session.{Session}
 use Rattle.session.specs.declared.Begun.{Begun}
 use Rattle.session.specs.declared.Lined.{Lined}
 use Rattle.session.specs.declared.Sounded.{Sounded}
-use Rattle.session.specs.Prints.{allListed, freshPrints, each, cleared}
+use Rattle.session.specs.Fingerprints.{allListed, freshFingerprints, each, cleared}
 
 -- the settings are those of an accepted setup: a format with a rate that it takes, and 1 to 32 fingerprints
 unfoldable pub isSet : Settings → Bool
@@ -45,7 +46,7 @@ setUpWith format rate count mixes =
         counter = 0;
         place = 0;
       };
-      prints = freshPrints mixes;
+      fingerprints = freshFingerprints mixes;
     }
 
 -- "a refused setup gives an empty one"
@@ -70,7 +71,7 @@ withPicture s p =
         counter = s .programme .counter;
         place = s .programme .place;
       };
-      prints = s .prints;
+      fingerprints = s .fingerprints;
     }
 
 -- "an empty one, for which Line, Sound and Pack return 1 first"; then what the picture says
@@ -84,26 +85,33 @@ lineOf s number line =
     })
     (record { number = 1; told = Open; session = s })
 
+-- what it answers as 01's number and values, with none of its cases
+unfoldable pub lineSays : Session → ℕ → List ℕ → Says
+lineSays s number line =
+    cond (isSet (s .programme .settings))
+    (picture.lineSays (s .programme .picture) (s .programme .settings .format) number line)
+    (record { number = 1; ended = false; values = [] })
+
 -- ---- Sound
 
-abbrev pub noPrint : Fingerprint
-noPrint = record { mix = 0; envelope = 0; mean = 0; wait = 0; started = false; held = 0; bytes = [] }
+abbrev pub noFingerprint : Fingerprint
+noFingerprint = record { mix = 0; envelope = 0; mean = 0; wait = 0; started = false; held = 0; bytes = [] }
 
 -- a session with another fingerprint k
-abbrev pub withPrint : Session → ℕ → Fingerprint → Session
-withPrint s k f = record { programme = s .programme; prints = set (s .prints) k f }
+abbrev pub withFingerprint : Session → ℕ → Fingerprint → Session
+withFingerprint s k f = record { programme = s .programme; fingerprints = set (s .fingerprints) k f }
 
 -- "7 no such fingerprint; 8 length no multiple of one instant; 9 held plus new bits above 256"
 unfoldable pub soundedNumber : Session → ℕ → ℕ → ℕ
 soundedNumber s k len =
     unless (isSet (s .programme .settings)) 1
     (cond (leb (s .programme .settings .count) k) 7
-    (soundNumber (intervalOf (s .programme .settings .rate)) (getD (s .prints) k noPrint) len))
+    (soundNumber (intervalOf (s .programme .settings .rate)) (getD (s .fingerprints) k noFingerprint) len))
 
 unfoldable pub soundOf : Session → ℕ → List ℕ → Sounded
 soundOf s k block =
     cond (eqb (soundedNumber s k (length block)) 0)
-    (record { number = 0; session = withPrint s k (heardOf (intervalOf (s .programme .settings .rate)) (getD (s .prints) k noPrint) block) })
+    (record { number = 0; session = withFingerprint s k (heardOf (intervalOf (s .programme .settings .rate)) (getD (s .fingerprints) k noFingerprint) block) })
     (record { number = soundedNumber s k (length block); session = s })
 
 -- ---- Restarts: "never refused"; on an empty session they "change nothing"
@@ -121,7 +129,7 @@ audioAnew s =
         counter = s .programme .counter;
         place = 0;
       };
-      prints = each cleared (s .programme .settings .count) (s .prints);
+      fingerprints = each cleared (s .programme .settings .count) (s .fingerprints);
     }
 
 unfoldable pub audioRestarted : Session → Session

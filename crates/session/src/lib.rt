@@ -2,14 +2,15 @@
 ghost use mathlib.Core.Path.{_≡_};
 ghost use Prim.Native.Nat.{_≤_};
 ghost use lib.ListN.{length};
-ghost use Rattle.session.specs.Session.{isSet, setupNumber, setUpWith, setupOf, lineOf, soundOf, videoRestarted, audioRestarted};
+ghost use Rattle.picture.specs.Fields.{saysOf};
+ghost use Rattle.session.specs.Session.{isSet, setupNumber, setUpWith, setupOf, lineOf, lineSays, soundOf, videoRestarted, audioRestarted};
 ghost use Rattle.session.specs.Packing.{packNumber, packOf, packOut};
 use fingerprint::Fingerprint;
 use picture::Picture;
 use picture::Told;
 
+mod fingerprints;
 mod packing;
-mod prints;
 
 // What Setup fixes. An empty session has no fingerprint: count 0.
 pub struct Settings {
@@ -28,7 +29,7 @@ pub struct Programme {
 
 pub struct Session {
     programme: Programme,
-    prints: [Fingerprint; 32],
+    fingerprints: [Fingerprint; 32],
 }
 
 // What each call answers: 01's number, what it tells beside, and the session after it.
@@ -80,7 +81,11 @@ fn setup_number(format: u8, rate: u8, mixes: &[u8]) -> u8
     if 32 < mixes.len() {
         return 1;
     }
-    if prints::all_listed(mixes) { 0 } else { 1 }
+    if fingerprints::all_listed(mixes) {
+        0
+    } else {
+        1
+    }
 }
 
 // A session as setup makes it, from a number of mix types that it takes.
@@ -89,7 +94,7 @@ fn set_up(format: u8, rate: u8, count: u8, mixes: &[u8]) -> Session
     ensures { λ r. ⌜ r ≡ setUpWith format rate count (now (mixes .entry)) ⌝ }
 {
     let picture = picture::fresh();
-    let fresh = prints::fresh_prints(mixes);
+    let fresh = fingerprints::fresh_fingerprints(mixes);
     Session {
         programme: Programme {
             settings: Settings {
@@ -101,7 +106,7 @@ fn set_up(format: u8, rate: u8, count: u8, mixes: &[u8]) -> Session
             counter: 0,
             place: 0,
         },
-        prints: fresh,
+        fingerprints: fresh,
     }
 }
 
@@ -124,7 +129,7 @@ pub fn setup(format: u8, rate: u8, mixes: &[u8]) -> Begun
 
 // Line: 1 for an empty session, then 2 to 5.
 pub fn line(s: Session, number: usize, line: &[u8]) -> Lined
-    ensures { λ r. ⌜ r ≡ lineOf s number (now (line .entry)) ⌝ }
+    ensures { λ r. ⌜ (r ≡ lineOf s number (now (line .entry))) × (saysOf (r .number) (r .told) ≡ lineSays s number (now (line .entry))) ⌝ }
 {
     let p = s.programme;
     let settings = p.settings;
@@ -139,7 +144,7 @@ pub fn line(s: Session, number: usize, line: &[u8]) -> Lined
     let r = picture::line(before, settings.format, number, line);
     let told = r.told;
     let after = r.picture;
-    let kept = s.prints;
+    let kept = s.fingerprints;
     Lined {
         number: r.number,
         told,
@@ -150,7 +155,7 @@ pub fn line(s: Session, number: usize, line: &[u8]) -> Lined
                 counter: p.counter,
                 place: p.place,
             },
-            prints: kept,
+            fingerprints: kept,
         },
     }
 }
@@ -174,14 +179,14 @@ pub fn sound(s: Session, k: usize, block: &[u8]) -> Sounded
         };
     }
     let d = rates::interval(settings.rate);
-    let f = s.prints[k];
+    let f = s.fingerprints[k];
     let number = fingerprint::sound_number(f, d, block.len());
     if number != 0 {
         return Sounded { number, session: s };
     }
     let heard = fingerprint::heard(f, d, block);
     let mut next = s;
-    next.prints[k] = heard;
+    next.fingerprints[k] = heard;
     Sounded {
         number: 0,
         session: next,
@@ -199,7 +204,7 @@ pub fn video_restart(s: Session) -> Session
     }
     let before = p.picture;
     let after = picture::restart(before);
-    let kept = s.prints;
+    let kept = s.fingerprints;
     Session {
         programme: Programme {
             settings,
@@ -207,7 +212,7 @@ pub fn video_restart(s: Session) -> Session
             counter: p.counter,
             place: p.place,
         },
-        prints: kept,
+        fingerprints: kept,
     }
 }
 
@@ -220,8 +225,8 @@ pub fn audio_restart(s: Session) -> Session
     if !is_set(settings) {
         return s;
     }
-    let before = s.prints;
-    let cleared = prints::clear(before, settings.count as usize);
+    let before = s.fingerprints;
+    let cleared = fingerprints::clear(before, settings.count as usize);
     let picture = p.picture;
     Session {
         programme: Programme {
@@ -230,7 +235,7 @@ pub fn audio_restart(s: Session) -> Session
             counter: p.counter,
             place: 0,
         },
-        prints: cleared,
+        fingerprints: cleared,
     }
 }
 
@@ -265,7 +270,8 @@ pub fn pack(s: Session, id: &[u8], out: &mut [u8]) -> Packed
             session: s,
         };
     }
-    let contents = packing::contents(s, id);
+    let packing = packing::make(s, id);
+    let contents = packing.contents;
     let done = container::write_container(contents, out);
     if done.number != 0 {
         return Packed {
@@ -274,9 +280,10 @@ pub fn pack(s: Session, id: &[u8], out: &mut [u8]) -> Packed
             session: s,
         };
     }
+    let next = packing.session;
     Packed {
         number: 0,
         written: done.written,
-        session: packing::after(s),
+        session: next,
     }
 }

@@ -1,22 +1,17 @@
 // What a container packed from a session says, and the session after it (01, "Packing needs a ready frame ..").
 ghost use mathlib.Core.Path.{_≡_};
 ghost use Prim.Native.Nat.{_≤_};
-ghost use Rattle.session.specs.Packing.{videoOf, idOf, dueOf, hasAudio, spokenOf, counterAfter, placeFrom, contentsOf, sessionAfter};
+ghost use Rattle.session.specs.Packing.{idOf, spokenWith, counterAfter, placeWith, packingOf};
 use crate::Programme;
 use crate::Session;
+use crate::fingerprints::all_hold;
+use crate::fingerprints::say_all;
 use container::Contents;
-use container::Video;
-use picture::Shown;
 
-// "Video is present exactly when the frame gave a fingerprint for each of its fields."
-fn video(shown: Shown) -> Video
-    ensures { λ r. ⌜ r ≡ videoOf shown ⌝ }
-{
-    match shown {
-        Shown::None => Video::Absent,
-        Shown::One(a) => Video::One(a),
-        Shown::Two(a, b) => Video::Two(a, b),
-    }
+// What a container says, and the session after it, made together.
+pub(crate) struct Packing {
+    pub(crate) contents: Contents,
+    pub(crate) session: Session,
 }
 
 // The ID's 20 bytes where they are lent, else zeros.
@@ -31,64 +26,6 @@ fn id_bytes(id: &[u8]) -> [u8; 20]
     bytes
 }
 
-// The bytes that the cadence asks of each fingerprint.
-fn due(p: Programme) -> u8
-    ensures { λ r. ⌜ r ≡ dueOf p ⌝ }
-{
-    let settings = p.settings;
-    rates::bytes_due(settings.rate, p.place)
-}
-
-// "Audio is present exactly when every fingerprint holds the whole bytes the cadence asks for."
-fn has_audio(s: Session) -> bool
-    requires { ⌜ s .programme .settings .count ≤ 32 ⌝ }
-    ensures { λ r. ⌜ r ≡ hasAudio s ⌝ }
-{
-    let p = s.programme;
-    let settings = p.settings;
-    let prints = s.prints;
-    crate::prints::all_hold(prints, settings.count as usize, due(p) as usize)
-}
-
-// The number of fingerprints that the container has: all or none.
-fn spoken(s: Session) -> u8
-    requires { ⌜ s .programme .settings .count ≤ 32 ⌝ }
-    ensures { λ r. ⌜ r ≡ spokenOf s ⌝ }
-{
-    if has_audio(s) {
-        let p = s.programme;
-        let settings = p.settings;
-        return settings.count;
-    }
-    0
-}
-
-// What the container says.
-pub(crate) fn contents(s: Session, id: &[u8]) -> Contents
-    requires { ⌜ s .programme .settings .count ≤ 32 ⌝ }
-    ensures { λ r. ⌜ r ≡ contentsOf s (now (id .entry)) ⌝ }
-{
-    let p = s.programme;
-    let settings = p.settings;
-    let picture = p.picture;
-    let h = picture::hand_out(picture);
-    let shown = h.shown;
-    let prints = s.prints;
-    let count = spoken(s);
-    let said = crate::prints::said(prints, count as usize, due(p));
-    let bytes = id_bytes(id);
-    let values = video(shown);
-    Contents {
-        counter: p.counter,
-        rate: settings.rate,
-        hasid: id.len() == 20,
-        id: bytes,
-        video: values,
-        count,
-        prints: said,
-    }
-}
-
 // "from 0, 255 to 0"
 fn counter_after(counter: u8) -> u8
     ensures { λ r. ⌜ r ≡ counterAfter counter ⌝ }
@@ -96,38 +33,60 @@ fn counter_after(counter: u8) -> u8
     ((counter as u32 + 1) % 256) as u8
 }
 
-// The cadence moves on only with audio.
-fn place_after(s: Session) -> u8
-    requires { ⌜ s .programme .settings .count ≤ 32 ⌝ }
-    ensures { λ r. ⌜ r ≡ placeFrom s ⌝ }
+// The number of fingerprints that the container has: all or none.
+fn spoken(audio: bool, count: u8) -> u8
+    ensures { λ r. ⌜ r ≡ spokenWith audio count ⌝ }
 {
-    let p = s.programme;
-    let settings = p.settings;
-    if has_audio(s) {
-        return rates::next_place(settings.rate, p.place);
-    }
-    p.place
+    if audio { count } else { 0 }
 }
 
-// The session once the container is packed.
-pub(crate) fn after(s: Session) -> Session
+// The cadence moves on only with audio.
+fn place_after(audio: bool, rate: u8, place: u8) -> u8
+    ensures { λ r. ⌜ r ≡ placeWith audio rate place ⌝ }
+{
+    if audio {
+        return rates::next_place(rate, place);
+    }
+    place
+}
+
+// What the container says, and the session once it is packed.
+pub(crate) fn make(s: Session, id: &[u8]) -> Packing
     requires { ⌜ s .programme .settings .count ≤ 32 ⌝ }
-    ensures { λ r. ⌜ r ≡ sessionAfter s ⌝ }
+    ensures { λ r. ⌜ r ≡ packingOf s (now (id .entry)) ⌝ }
 {
     let p = s.programme;
     let settings = p.settings;
     let picture = p.picture;
+    let fingerprints = s.fingerprints;
+    let due = rates::bytes_due(settings.rate, p.place);
+    let audio = all_hold(fingerprints, settings.count as usize, due as usize);
+    let count = spoken(audio, settings.count);
+    let parts = say_all(fingerprints, count as usize, due);
     let h = picture::hand_out(picture);
+    let shown = h.shown;
     let handed = h.picture;
-    let prints = s.prints;
-    let left = crate::prints::shed_all(prints, spoken(s) as usize, due(p) as usize);
-    Session {
-        programme: Programme {
-            settings,
-            picture: handed,
-            counter: counter_after(p.counter),
-            place: place_after(s),
+    let said = parts.said;
+    let left = parts.left;
+    let bytes = id_bytes(id);
+    Packing {
+        contents: Contents {
+            counter: p.counter,
+            rate: settings.rate,
+            hasid: id.len() == 20,
+            id: bytes,
+            video: shown,
+            count,
+            prints: said,
         },
-        prints: left,
+        session: Session {
+            programme: Programme {
+                settings,
+                picture: handed,
+                counter: counter_after(p.counter),
+                place: place_after(audio, settings.rate, p.place),
+            },
+            fingerprints: left,
+        },
     }
 }

@@ -10,7 +10,7 @@ use lib.ListN.{length, getD, drop, replicate, length-drop, List·getD-eq-default
 use lib.Seq.{sets, getD-drop}
 use borrow.Author.Tests.{ne-eqb}
 use Rattle.laws.specs.Calls.{over}
-use Rattle.laws.proofs.Lists.{sets-over}
+use Rattle.laws.proofs.Lists.{getD-zeros, sets-over}
 use Rattle.laws.proofs.Tests.{chosen}
 use Rattle.sound.specs.Mix.{signed, signedAt, instantSamples, weights, divisor, weighted, floor, mixed, pseudoAbsolute, instantBytes, instantValue}
 use Rattle.sound.proofs.Whole.{sub-add, sub-mul}
@@ -83,12 +83,6 @@ same-samples b c p q zero e = refl
 same-samples b c p q (suc n) e =
     let e0 : getD b p 0 ≡ getD c q 0 = simp add-zero at (e 0) in
     rw (e0, e 1, same-samples b c (p + 2) (q + 2) n (λ k. rw (add-assoc p 2 k, add-assoc q 2 k) (e (2 + k))))
-
--- zeros are 0 at every place, and past their end
-pub getD-zeros : (m i : ℕ) → _≡_ {A = ℕ} (getD (replicate m 0) i 0) 0
-getD-zeros zero i = refl
-getD-zeros (suc m) zero = refl
-getD-zeros (suc m) (suc i) = getD-zeros m i
 
 -- an instant cut off by the block's end, copied out before zeros
 pub cut-value : (mix : ℕ) (block : List ℕ) (at : ℕ) → at ≤ length block → length block - at ≤ 10

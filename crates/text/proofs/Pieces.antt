@@ -9,26 +9,26 @@ use borrow.Author.Tests.{le-leb, lt-leb}
 use lib.ListN.{length, length-append}
 use lib.Seq.{sets, length-sets}
 use Rattle.laws.proofs.Lists.{sets-append, sets-then, sets-out}
-use Rattle.text.specs.Lines.{lastPlace, placeAfter, Put}
+use Rattle.text.specs.Lines.{lastPlace, placePast, Put}
 
 -- below the last place the place after is the plain sum
-pub place-plain : (at n : ℕ) → at + n ≤ lastPlace → placeAfter at n ≡ at + n
-unfolding placeAfter
+pub place-plain : (at n : ℕ) → at + n ≤ lastPlace → placePast at n ≡ at + n
+unfolding placePast
 place-plain at n h = rw (le-leb (at + n) lastPlace h)
 
-pub place-last : (at n : ℕ) → lastPlace < at + n → placeAfter at n ≡ lastPlace
-unfolding placeAfter
+pub place-last : (at n : ℕ) → lastPlace < at + n → placePast at n ≡ lastPlace
+unfolding placePast
 place-last at n h = rw (lt-leb (at + n) lastPlace h)
 
 -- nothing put
 pub put-none : (o : List ℕ) (at : ℕ) → at ≤ lastPlace → Put o at [] o at
 put-none o at h = record { place = sym (place-plain at 0 (omega arith) ∙ add-zero at); stands = refl }
 
-placed : (a m b n : ℕ) → a + m ≡ b + n → placeAfter a m ≡ placeAfter b n
-unfolding placeAfter
+placed : (a m b n : ℕ) → a + m ≡ b + n → placePast a m ≡ placePast b n
+unfolding placePast
 placed a m b n e = rw e
 
-stays : (n : ℕ) → placeAfter lastPlace n ≡ lastPlace
+stays : (n : ℕ) → placePast lastPlace n ≡ lastPlace
 stays n =
     elim (decLt lastPlace (lastPlace + n)) [
       | yes l ↦ place-last lastPlace n l
@@ -52,7 +52,7 @@ put-then {o = o} {xs = xs} {ys = ys} {o′ = o′} {o″ = o″} {at = at} {next
         let m : length (sets o at xs) ≤ at + length xs = omega (arith, length-sets o at xs) in
         let g : lastPlace < at + length (xs ++ ys) = omega (arith, length-append xs ys) in
         record {
-          place = q .place ∙ ap (λ (i : ℕ). placeAfter i (length ys)) e ∙ stays (length ys) ∙ sym (place-last at (length (xs ++ ys)) g);
+          place = q .place ∙ ap (λ (i : ℕ). placePast i (length ys)) e ∙ stays (length ys) ∙ sym (place-last at (length (xs ++ ys)) g);
           stands = q .stands ∙ sets-out o′ next ys k ∙ p .stands ∙ sym (sets-out (sets o at xs) (at + length xs) ys m) ∙ sets-append o at xs ys;
         }
 

@@ -39,6 +39,26 @@ pub decimal-size : (n : ℕ) → length (decimalText n) ≤ 20
 unfolding decimalText
 decimal-size n = digits-size 20 n
 
+-- below 1,000 at most 3
+module _ (most n : ℕ) where
+  more-size : (k : ℕ) → length (digitsOf most (n / 10)) ≤ k → length (digitsOf (suc most) n) ≤ suc k
+  unfolding digitsOf
+  more-size k h =
+      chosen (λ (l : List ℕ). length l ≤ suc k) (ltb n 10) _ _ (λ _. omega arith)
+      (λ _. omega (arith, h, length-append (digitsOf most (n / 10)) (digitOf (n % 10))))
+
+one-digit : (most n : ℕ) → n < 10 → length (digitsOf (suc most) n) ≤ 1
+unfolding digitsOf
+one-digit most n h = rw (lt-ltb n 10 h) (omega arith)
+
+pub small-size : (n : ℕ) → n < 1000 → length (decimalText n) ≤ 3
+unfolding decimalText
+small-size n h = more-size 19 n 2 (more-size 18 (n / 10) 1 (one-digit 17 (n / 10 / 10) (omega arith)))
+
+pub item-small : (word : List ℕ) (n : ℕ) → n < 1000 → length (item word n) ≤ length word + 3
+unfolding item
+item-small word n h = omega (arith, length-append word (decimalText n), small-size n h)
+
 pub item-size : (word : List ℕ) (n : ℕ) → length (item word n) ≤ length word + 20
 unfolding item
 item-size word n = omega (arith, length-append word (decimalText n), decimal-size n)

@@ -13,12 +13,12 @@ abbrev pub lastPlace : ℕ
 lastPlace = 18446744073709551615
 
 -- the place so many bytes after another, or the last place where there is none
-unfoldable pub placeAfter : ℕ → ℕ → ℕ
-placeAfter at size = cond (leb (at + size) lastPlace) (at + size) lastPlace
+unfoldable pub placePast : ℕ → ℕ → ℕ
+placePast at size = cond (leb (at + size) lastPlace) (at + size) lastPlace
 
 -- text put into a buffer: it stands there from a place on, as far as the buffer goes, and next is the place after it
 pub record Put (o : List ℕ) (at : ℕ) (text o′ : List ℕ) (next : ℕ) : Type 0 where
-  pub place : next ≡ placeAfter at (length text)
+  pub place : next ≡ placePast at (length text)
   pub stands : o′ ≡ sets o at text
 
 -- a word and the number after it

@@ -3,10 +3,10 @@
 ghost use mathlib.Core.Path.{_≡_};
 ghost use Prim.Native.Nat.{_<_};
 ghost use Rattle.text.specs.Spelling.{digitOf, digitsOf, decimalText, glyphOf, hexOf, hexText};
-ghost use Rattle.text.specs.Lines.{placeAfter, Put, item};
+ghost use Rattle.text.specs.Lines.{placePast, Put, item};
 
 fn place_after(at: usize, size: usize) -> usize
-    ensures { λ r. ⌜ r ≡ placeAfter at size ⌝ }
+    ensures { λ r. ⌜ r ≡ placePast at size ⌝ }
 {
     if 18446744073709551615 - at < size {
         return 18446744073709551615;

@@ -35,7 +35,7 @@ unfolding otherLines
 loop-again c =
     let a = c .before .before .before .before .before .args in
     let l = c .before .before .before .loop in
-    (search needs, rw add-one (ap (λ (r : Lined). r .session) (c .before .line .ensures ∙ ap (λ (t : Session). lineOf t 1000 (a .line .now)) (l .inv .1))))
+    (search needs, rw add-one (ap (λ (r : Lined). r .session) (c .before .line .ensures .0 ∙ ap (λ (t : Session). lineOf t 1000 (a .line .now)) (l .inv .1))))
 
 returns : tie.Need-returns Inv-loop μ-loop
 returns c =

@@ -21,7 +21,7 @@ add-t14 c = search needs
 
 returns : tie.Need-returns
 unfolding stepOf
-returns c = simp (c .value .ensures, c .before .before .before .hand-out .ensures, c .before .before .before .before .before .line .ensures)
+returns c = simp (c .value .ensures, c .before .before .before .hand-out .ensures .0, c .before .before .before .before .before .line .ensures .0)
 
 pub step-spec : {M : Type 1} → statement M
 step-spec =

@@ -9,8 +9,8 @@ use Rattle.flat.proofs.flatten.Tie as tie
 twenty : (c : tie.Start) → length (c .args .c .id) ≡ 20
 twenty c = sym (length-map (c .args .c .id) _) ∙ c .good .0 .1 .1 .1 .1 .1 .0 .1 .0 .1
 
-present-byte-requires : tie.Need-present-byte-requires
-present-byte-requires c κs = search needs
+flag-requires : tie.Need-flag-requires
+flag-requires c κs = search needs
 
 video-bytes-requires : tie.Need-video-bytes-requires
 video-bytes-requires c κs = search needs
@@ -60,14 +60,14 @@ put-prints-requires c κs = search needs
 returns : tie.Need-returns
 returns c =
     let s = c .before .before .before .before .before .before .before .before .before .before .before .before .before .before .before .before .before .before .before .before .before .before .before in
-    flat-put (s .args .c) (replicate 283 0) _ _ _ _ _ _ _ refl (twenty s) (c .before .put-prints .ensures .0) (c .before .before .before .before .before .before .before .before .before .before .before .before .before .before .before .before .before .before .before .before .present-byte .ensures) (c .before .before .before .before .before .before .before .before .before .before .before .before .before .before .before .before .before .before .before .video-bytes .ensures)
+    flat-put (s .args .c) (replicate 283 0) _ _ _ _ _ _ _ refl (twenty s) (c .before .put-prints .ensures .0) (c .before .before .before .before .before .before .before .before .before .before .before .before .before .before .before .before .before .before .before .before .flag .ensures .0) (c .before .before .before .before .before .before .before .before .before .before .before .before .before .before .before .before .before .before .before .video-bytes .ensures)
     (c .before .before .before .before .before .before .before .before .before .before .before .before .before .before .before .before .copy-at .ensures) (c .before .before .before .before .before .before .before .before .before .before .before .before .copy-at2 .ensures) (c .before .before .before .before .before .before .before .before .copy-at3 .ensures) (c .before .before .before .before .copy-at4 .ensures) (c .before .put-prints .ensures .1)
 
 pub flatten-spec : {M : Type 1} → statement M
 flatten-spec =
     tie.close
     (tie.spec
-    present-byte-requires
+    flag-requires
     video-bytes-requires
     slice-aggregate-copy-at
     slice-aggregate-copy-at-2

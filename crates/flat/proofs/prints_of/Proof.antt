@@ -21,11 +21,11 @@ Inv-loop b prints₀ k₀ prints k = (k ≤ 32) × (prints ≡ take k (printsOf 
 abbrev μ-loop : tie.MeasureT-loop
 μ-loop b prints₀ k₀ prints k = 32 - k
 
-blank-requires : tie.Need-blank-requires Inv-loop μ-loop
-blank-requires c κs = search needs
+blank-print-requires : tie.Need-blank-print-requires Inv-loop μ-loop
+blank-print-requires c κs = search needs
 
 loop-holds : tie.Need-loop-holds Inv-loop μ-loop
-loop-holds c = (omega arith, rw (c .blank .ensures))
+loop-holds c = (omega arith, rw (c .blank-print .ensures))
 
 mul-at : tie.Need-mul-at Inv-loop μ-loop
 mul-at c = search needs
@@ -77,7 +77,7 @@ prints-of-spec =
     (tie.spec
     Inv-loop
     μ-loop
-    blank-requires
+    blank-print-requires
     loop-holds
     mul-at
     sub-print-of

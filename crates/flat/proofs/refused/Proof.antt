@@ -3,11 +3,11 @@ use borrow.Author.Needs.{needs}
 use Rattle.flat.proofs.refused.Statement.{statement}
 use Rattle.flat.proofs.refused.Tie as tie
 
-blank-requires : tie.Need-blank-requires
-blank-requires c κs = search needs
+empty-contents-requires : tie.Need-empty-contents-requires
+empty-contents-requires c κs = search needs
 
 returns : tie.Need-returns
-returns c = rw (c .blank .ensures)
+returns c = rw (c .empty-contents .ensures)
 
 pub refused-spec : {M : Type 1} → statement M
-refused-spec = tie.close (tie.spec blank-requires returns)
+refused-spec = tie.close (tie.spec empty-contents-requires returns)

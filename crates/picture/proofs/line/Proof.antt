@@ -1,5 +1,7 @@
 -- `picture::line` meets its contract: judged, and then taken where it is the line that is due.
-use mathlib.Core.Path.{_≡_, sym, _∙_}
+use Prim.Native.Nat.{ℕ}
+use mathlib.Core.Path.{_≡_, sym, ap, _∙_}
+use mathlib.Core.List.{List}
 use native.Mathlib.Omega.{arith}
 use borrow.Author.Needs.{needs}
 use borrow.Author.Tests.{eq-eqb, ne-eqb}
@@ -7,10 +9,18 @@ use lib.Dec.{eqb}
 use lib.ListN.{length}
 use mathlib.Core.Bool.{true}
 use Rattle.sampling.proofs.Table.{listed}
-use Rattle.picture.specs.Pictures.{numberAt, lineOf}
+use Rattle.picture.specs.declared.Picture.{Picture}
+use Rattle.picture.specs.declared.Scanned.{Scanned}
+use Rattle.picture.specs.Fields.{saysOf}
+use Rattle.picture.specs.Pictures.{numberAt, lineOf, lineSays}
+use Rattle.picture.proofs.Says.{line-says}
 use Rattle.picture.proofs.Judged.{Passed, passed, Small, small}
 use Rattle.picture.proofs.line.Statement.{statement}
 use Rattle.picture.proofs.line.Tie as tie
+
+-- what the line tells is said too
+said : (p : Picture) (f n : ℕ) (b : List ℕ) (r : Scanned) → r ≡ lineOf p f n b → (r ≡ lineOf p f n b) × (saysOf (r .number) (r .told) ≡ lineSays p f n b)
+said p f n b r e = (e, ap (λ (l : Scanned). saysOf (l .number) (l .told)) e ∙ line-says p f n b)
 
 judge-requires : tie.Need-judge-requires
 judge-requires c κs = search needs
@@ -25,7 +35,7 @@ returns : tie.Need-returns
 unfolding lineOf
 returns c =
     let j = c .before .judge .ensures in
-    simp (← j, ne-eqb _ _ (c .if1 .taken))
+    said _ _ _ _ _ (simp (← j, ne-eqb _ _ (c .if1 .taken)))
 
 row-of-requires : tie.Need-row-of-requires
 row-of-requires c κs = search needs
@@ -40,7 +50,7 @@ returns-2 : tie.Need-returns-2
 unfolding lineOf
 returns-2 c =
     let r = c .before .before in
-    simp (zero (r .before), ne-eqb _ _ (rw (c .before .due-line .ensures, r .row-of .ensures) at (c .if2 .taken)))
+    said _ _ _ _ _ (simp (zero (r .before), ne-eqb _ _ (rw (c .before .due-line .ensures, r .row-of .ensures) at (c .if2 .taken))))
 
 take-requires : tie.Need-take-requires
 take-requires c κs =
@@ -52,7 +62,7 @@ unfolding lineOf
 returns-3 c =
     let d = c .before in
     let r = d .before .before in
-    simp (zero (r .before), eq-eqb _ _ (rw (d .before .due-line .ensures, r .row-of .ensures) at (d .if2 .left)), c .take .ensures)
+    said _ _ _ _ _ (simp (zero (r .before), eq-eqb _ _ (rw (d .before .due-line .ensures, r .row-of .ensures) at (d .if2 .left)), c .take .ensures))
 
 pub line-spec : {M : Type 1} → statement M
 line-spec =

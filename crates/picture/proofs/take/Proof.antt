@@ -8,7 +8,7 @@ use borrow.Rule.Slice.PartMut.{putMid}
 use lib.ListN.{length}
 use Rattle.sampling.specs.Formats.{rowOf}
 use Rattle.sampling.specs.Samples.{pixels}
-use Rattle.picture.specs.Lines.{twoFields}
+use Rattle.picture.specs.Lines.{interlaced}
 use Rattle.picture.specs.Pictures.{withRow, taken}
 use Rattle.picture.proofs.Rows.{sampled-row}
 use Rattle.picture.proofs.take.Statement.{statement}
@@ -59,7 +59,7 @@ end-field-requires : tie.Need-end-field-requires
 end-field-requires c κs = search needs
 
 returns-2 : tie.Need-returns-2
-unfolding taken twoFields
+unfolding taken interlaced
 returns-2 c =
     let e = c .before .before .before in
     simp (le-ltb _ _ (e .if1 .left), c .end-field .ensures, c .before .before .row-of .ensures, filled (e .before .before))

@@ -1,9 +1,9 @@
--- `rates::bytes_due` meets its contract: the code's rows are the definition's, filled up to 40 places.
-use mathlib.Core.Path.{_≡_, sym, ap}
-use mathlib.Core.List.{List}
+-- `rates::bytes_due` meets its contract.
 use Prim.Native.Nat.{ℕ}
+use mathlib.Core.Path.{_≡_, sym, ap, _∙_}
+use mathlib.Core.List.{List}
 use lib.ListN.{getD}
-use Rattle.rates.specs.Cadence.{cadences, cadence, frames, from, among}
+use Rattle.rates.specs.Cadence.{cadences, cadence, rowHeld}
 use Rattle.rates.proofs.Table.{at-row, no-cadence, past-cadence}
 use borrow.Author.Needs.{needs}
 use Rattle.rates.proofs.bytes_due.Statement.{statement}
@@ -15,19 +15,17 @@ returns c = sym (ap (λ (l : List ℕ). getD l (c .before .args .place) 0) (no-c
 returns-2 : tie.Need-returns-2
 returns-2 c = past-cadence (c .before .before .args .code) (c .before .before .args .place) (c .if2 .taken)
 
-mul-result : tie.Need-mul-result
-mul-result c = search needs
+row-requires : tie.Need-row-requires
+row-requires c κs = search needs
 
-index-1-result : tie.Need-index-1-result
-index-1-result c = search needs
-
-index-2-result : tie.Need-index-2-result
-index-2-result c = search needs
+array-read-result : tie.Need-array-read-result
+array-read-result c = search needs
 
 returns-3 : tie.Need-returns-3
-unfolding cadence cadences frames from among
-returns-3 c = at-row cadences (c .before .before .before .args .code) (c .before .before .before .args .place) _ (search needs)
+unfolding cadence cadences rowHeld
+returns-3 c =
+    let a = c .before .before .before .args in
+    ap (λ (l : List ℕ). getD l (a .place) 0) (c .row .ensures .0) ∙ at-row cadences (a .code) (a .place) _ (c .before .before .if1 .left)
 
 pub bytes-due-spec : {M : Type 1} → statement M
-bytes-due-spec =
-    tie.close (tie.spec returns returns-2 mul-result index-1-result index-2-result returns-3)
+bytes-due-spec = tie.close (tie.spec returns returns-2 row-requires array-read-result returns-3)

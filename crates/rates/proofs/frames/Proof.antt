@@ -1,7 +1,8 @@
 -- `rates::frames` meets its contract: the code's counts are the lengths of the definition's rows.
 use mathlib.Core.Path.{_≡_, sym, ap}
 use lib.ListN.{length}
-use Rattle.rates.specs.Cadence.{cadences, cadence, frames, from, among}
+use Rattle.rates.specs.Cadence.{cadences, cadence, frames, from}
+use Rattle.laws.specs.Lists.{isOneOf}
 use Rattle.rates.proofs.Table.{at-length, no-cadence}
 use borrow.Author.Needs.{needs}
 use Rattle.rates.proofs.frames.Statement.{statement}
@@ -14,7 +15,7 @@ array-read-result : tie.Need-array-read-result
 array-read-result c = search needs
 
 returns-2 : tie.Need-returns-2
-unfolding cadence cadences frames from among
+unfolding cadence cadences frames from isOneOf
 returns-2 c = at-length cadences (c .before .args .code)
 
 pub frames-spec : {M : Type 1} → statement M

@@ -17,7 +17,7 @@ line : (c : tie.After-slice-known7) → Put (c .before .before .before .before .
 unfolding acceptedText
 line c =
     let h = fits (c .before .before .before .before .before .before .before .before .before .before .before .before .before .before .before .before .before .before .before .before .before .before .before .before .before .before .before .before .before .before .before .before .before .before) in
-    let i = put-as (ap (item id) (c .before .before .before .before .before .before .before .before .before .before .before .before .before .before .before .before .before .before .before .id-flag .ensures)) (c .before .before .before .before .before .before .before .before .before .before .before .before .before .before .before .before .before .put-item3 .ensures) in
+    let i = put-as (ap (item id) (c .before .before .before .before .before .before .before .before .before .before .before .before .before .before .before .before .before .before .before .flag .ensures .0)) (c .before .before .before .before .before .before .before .before .before .before .before .before .before .before .before .before .before .put-item3 .ensures) in
     put-then (put-then (put-then (put-then (put-then (c .before .before .before .before .before .before .before .before .before .before .before .before .before .before .before .before .before .before .before .before .before .before .before .before .before .before .before .before .before .put-item .ensures) (c .before .before .before .before .before .before .before .before .before .before .before .before .before .before .before .before .before .before .before .before .before .before .before .put-item2 .ensures) h) i h) (c .before .before .before .before .before .before .before .before .before .before .before .before .before .put-video .ensures) h) (c .before .before .before .before .before .before .before .put-item4 .ensures) h) (c .before .before .put .ensures) h
 
 slice-aggregate-put-item : tie.Need-slice-aggregate-put-item
@@ -41,8 +41,11 @@ put-item-requires-2 c κs = search needs
 slice-aggregate-put-item-3 : tie.Need-slice-aggregate-put-item-3
 slice-aggregate-put-item-3 c = search needs
 
-id-flag-requires : tie.Need-id-flag-requires
-id-flag-requires c κs = search needs
+flag-requires : tie.Need-flag-requires
+flag-requires c κs = search needs
+
+cast-put-item-3 : tie.Need-cast-put-item-3
+cast-put-item-3 c = search needs
 
 put-item-requires-3 : tie.Need-put-item-requires-3
 put-item-requires-3 c κs = search needs
@@ -53,8 +56,8 @@ put-video-requires c κs = search needs
 slice-aggregate-put-item-4 : tie.Need-slice-aggregate-put-item-4
 slice-aggregate-put-item-4 c = search needs
 
-cast-put-item-3 : tie.Need-cast-put-item-3
-cast-put-item-3 c = search needs
+cast-put-item-4 : tie.Need-cast-put-item-4
+cast-put-item-4 c = search needs
 
 put-item-requires-4 : tie.Need-put-item-requires-4
 put-item-requires-4 c κs = search needs
@@ -82,11 +85,12 @@ put-accepted-spec =
     cast-put-item-2
     put-item-requires-2
     slice-aggregate-put-item-3
-    id-flag-requires
+    flag-requires
+    cast-put-item-3
     put-item-requires-3
     put-video-requires
     slice-aggregate-put-item-4
-    cast-put-item-3
+    cast-put-item-4
     put-item-requires-4
     slice-aggregate-put
     put-requires

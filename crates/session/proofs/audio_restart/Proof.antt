@@ -13,7 +13,7 @@ abbrev with : Session → List Fingerprint → Session
 with s prints =
     record {
       programme = record { settings = s .programme .settings; picture = s .programme .picture; counter = s .programme .counter; place = 0 };
-      prints = prints;
+      fingerprints = prints;
     }
 
 is-set-requires : tie.Need-is-set-requires

@@ -7,7 +7,7 @@ use borrow.Author.Tests.{not-true, not-false}
 use Rattle.laws.proofs.Tests.{tests}
 use Rattle.picture.specs.Pictures.{isReady}
 use Rattle.session.specs.Session.{isSet}
-use Rattle.session.specs.Packing.{packNumber}
+use Rattle.session.specs.Packing.{readyNumber, packNumber}
 use borrow.Author.Needs.{needs}
 use Rattle.session.proofs.pack_number.Statement.{statement}
 use Rattle.session.proofs.pack_number.Tie as tie
@@ -28,14 +28,14 @@ is-set-requires : tie.Need-is-set-requires
 is-set-requires c κs = search needs
 
 returns : tie.Need-returns
-unfolding packNumber
+unfolding packNumber readyNumber
 returns c = rw (empty c)
 
 is-ready-requires : tie.Need-is-ready-requires
 is-ready-requires c κs = search needs
 
 returns-2 : tie.Need-returns-2
-unfolding packNumber
+unfolding packNumber readyNumber
 returns-2 c = rw (right (c .before .before .before), not-ready c)
 
 returns-3 : tie.Need-returns-3

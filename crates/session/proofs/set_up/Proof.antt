@@ -12,20 +12,20 @@ use Rattle.session.proofs.set_up.Statement.{statement}
 use Rattle.session.proofs.set_up.Tie as tie
 
 abbrev with : Settings → Picture → List Fingerprint → Session
-with settings p prints = record { programme = record { settings = settings; picture = p; counter = 0; place = 0 }; prints = prints }
+with settings p prints = record { programme = record { settings = settings; picture = p; counter = 0; place = 0 }; fingerprints = prints }
 
 fresh-requires : tie.Need-fresh-requires
 fresh-requires c κs = search needs
 
-fresh-prints-requires : tie.Need-fresh-prints-requires
-fresh-prints-requires c κs = search needs
+fresh-fingerprints-requires : tie.Need-fresh-fingerprints-requires
+fresh-fingerprints-requires c κs = search needs
 
 returns : tie.Need-returns
 unfolding setUpWith
 returns c =
     let a = c .before .before .before .args in
     let settings : Settings = record { format = a .format; rate = a .rate; count = a .count } in
-    ap (λ (p : Picture). with settings p (c .fresh-prints .result)) (c .before .fresh .ensures) ∙ ap (λ (l : List Fingerprint). with settings freshPicture l) (c .fresh-prints .ensures)
+    ap (λ (p : Picture). with settings p (c .fresh-fingerprints .result)) (c .before .fresh .ensures) ∙ ap (λ (l : List Fingerprint). with settings freshPicture l) (c .fresh-fingerprints .ensures)
 
 pub set-up-spec : {M : Type 1} → statement M
-set-up-spec = tie.close (tie.spec fresh-requires fresh-prints-requires returns)
+set-up-spec = tie.close (tie.spec fresh-requires fresh-fingerprints-requires returns)

@@ -4,7 +4,7 @@ use mathlib.Core.Bool.{true, false}
 use borrow.Author.Tests.{not-true, not-false}
 use Rattle.laws.proofs.Tests.{tests}
 use Rattle.rates.specs.Rates.{pairsWith}
-use Rattle.session.specs.Prints.{allListed}
+use Rattle.session.specs.Fingerprints.{allListed}
 use Rattle.session.specs.Session.{setupNumber}
 use borrow.Author.Needs.{needs}
 use Rattle.session.proofs.setup_number.Statement.{statement}

@@ -4,11 +4,11 @@ use borrow.Author.Needs.{needs}
 use Rattle.container.proofs.read.no_audio.Statement.{statement}
 use Rattle.container.proofs.read.no_audio.Tie as tie
 
-blank-requires : tie.Need-blank-requires
-blank-requires c κs = search needs
+blank-print-requires : tie.Need-blank-print-requires
+blank-print-requires c κs = search needs
 
 returns : tie.Need-returns
-returns c = rw (c .blank .ensures)
+returns c = rw (c .blank-print .ensures)
 
 pub no-audio-spec : {M : Type 1} → statement M
-no-audio-spec = tie.close (tie.spec blank-requires returns)
+no-audio-spec = tie.close (tie.spec blank-print-requires returns)

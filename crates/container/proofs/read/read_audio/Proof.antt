@@ -7,12 +7,12 @@ use borrow.Author.Needs.{needs}
 use Rattle.container.proofs.read.read_audio.Statement.{statement}
 use Rattle.container.proofs.read.read_audio.Tie as tie
 
-blank-requires : tie.Need-blank-requires
-blank-requires c κs = search needs
+blank-print-requires : tie.Need-blank-print-requires
+blank-print-requires c κs = search needs
 
 returns : tie.Need-returns
 unfolding audioPart
-returns c = rw (c .blank .ensures) (search tests)
+returns c = rw (c .blank-print .ensures) (search tests)
 
 no-audio-requires : tie.Need-no-audio-requires
 no-audio-requires c κs = search needs
@@ -57,7 +57,7 @@ pub read-audio-spec : {M : Type 1} → statement M
 read-audio-spec =
     tie.close
     (tie.spec
-    blank-requires
+    blank-print-requires
     returns
     no-audio-requires
     returns-2

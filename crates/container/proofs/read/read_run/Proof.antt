@@ -45,11 +45,11 @@ within c =
     let u = print-used (drop at (b (c .before))) (right c) in
     omega (arith, rw length-drop at u, ap (λ (p : PrintPart). p .used) (what (c .before)))
 
-blank-requires : tie.Need-blank-requires Inv-loop μ-loop
-blank-requires c κs = search needs
+blank-print-requires : tie.Need-blank-print-requires Inv-loop μ-loop
+blank-print-requires c κs = search needs
 
 loop-holds : tie.Need-loop-holds Inv-loop μ-loop
-loop-holds c = (omega arith, omega arith, going-start _ _, rw (c .blank .ensures))
+loop-holds c = (omega arith, omega arith, going-start _ _, rw (c .blank-print .ensures))
 
 sub-read-print : tie.Need-sub-read-print Inv-loop μ-loop
 sub-read-print c = search needs
@@ -122,7 +122,7 @@ read-run-spec =
     (tie.spec
     Inv-loop
     μ-loop
-    blank-requires
+    blank-print-requires
     loop-holds
     sub-read-print
     part-read-print-start

@@ -8,7 +8,7 @@ use lib.Seq.{sets, length-sets}
 use Rattle.laws.specs.Sums.{sum}
 use Rattle.laws.proofs.Lists.{sets-then}
 use Rattle.container.specs.declared.Contents.{Contents}
-use Rattle.container.specs.Bytes.{partBytes, flagByte, frontBytes, checkOf, encode}
+use Rattle.container.specs.Bytes.{partBytes, flagByte, frontBytes, checkByte, encode}
 use Rattle.container.proofs.Bytes.{parts-at-most, front-length, encode-length}
 use Rattle.container.proofs.Outcome.{head-last, take-front}
 use borrow.Author.Needs.{needs}
@@ -108,14 +108,14 @@ same-length : tie.Need-same-length
 same-length c = let w = c .before .before .before .before in simp length-set (ap length (front-is w) ∙ length-sets (start w .args .out .now) 0 (frontBytes (contents w)))
 
 returns : tie.Need-returns
-unfolding encode checkOf
+unfolding encode checkByte
 returns c =
     let w = c .before .before .before .before in
     let front : List ℕ = frontBytes (contents w) in
-    let z : (256 - c .byte-sum .result) % 256 ≡ checkOf (sum front) =
+    let z : (256 - c .byte-sum .result) % 256 ≡ checkByte (sum front) =
     ap (λ (x : ℕ). (256 - x) % 256) (c .byte-sum .ensures ∙ ap (λ (l : List ℕ). sum l % 256) (front-back w)) in (
       omega (arith, end-is w, front-length (contents w), encode-length (contents w)),
-      sets-then (start w .args .out .now) (stored w) _ front (checkOf (sum front) ∷ []) 0 (end w) (front-is w) (omega (arith, end-is w)) (rw z),
+      sets-then (start w .args .out .now) (stored w) _ front (checkByte (sum front) ∷ []) 0 (end w) (front-is w) (omega (arith, end-is w)) (rw z),
     )
 
 pub encode-spec : {M : Type 1} → statement M

@@ -8,8 +8,8 @@ use Rattle.container.proofs.write.flag_byte.Tie as tie
 mul-result : tie.Need-mul-result
 mul-result c = search needs
 
-id-flag-requires : tie.Need-id-flag-requires
-id-flag-requires c κs = search needs
+flag-requires : tie.Need-flag-requires
+flag-requires c κs = search needs
 
 mul-result-2 : tie.Need-mul-result-2
 mul-result-2 c = search needs
@@ -34,14 +34,14 @@ add-result-3 c = search needs
 
 returns : tie.Need-returns
 unfolding flagByte
-returns c = omega (arith, c .audio-flag .ensures .0, c .before .video-flag .ensures .0, c .before .before .id-flag .ensures .0)
+returns c = omega (arith, c .audio-flag .ensures .0, c .before .video-flag .ensures .0, c .before .before .flag .ensures .0)
 
 pub flag-byte-spec : {M : Type 1} → statement M
 flag-byte-spec =
     tie.close
     (tie.spec
     mul-result
-    id-flag-requires
+    flag-requires
     mul-result-2
     add-result
     video-flag-requires

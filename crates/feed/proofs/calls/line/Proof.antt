@@ -37,7 +37,7 @@ unfolding lineFed lined
 returns-2 c =
     let a = c .before .before .before .before .before .before .args in
     let p = a .payload .now in
-    ap lined (c .before .line .ensures ∙ ap (lineOf (a .s) (c .before .before .before .pair-at .result)) (tail-is 2 p) ∙ ap (λ (n : ℕ). lineOf (a .s) n (drop 2 p)) (c .before .before .before .pair-at .ensures .0)) ∙ when-enough 2 (length p) _ _ (c .before .before .before .before .if1 .left)
+    ap lined (c .before .line .ensures .0 ∙ ap (lineOf (a .s) (c .before .before .before .pair-at .result)) (tail-is 2 p) ∙ ap (λ (n : ℕ). lineOf (a .s) n (drop 2 p)) (c .before .before .before .pair-at .ensures .0)) ∙ when-enough 2 (length p) _ _ (c .before .before .before .before .if1 .left)
 
 pub line-spec : {M : Type 1} → statement M
 line-spec =

@@ -7,7 +7,7 @@ use native.Mathlib.Omega.{arith}
 use borrow.Author.Tests.{eq-eqb, ne-eqb, not-true, not-false}
 use lib.Dec.{eqb}
 use lib.ListN.{length, getD, take, drop}
-use Rattle.packet.specs.Words.{wordsOf, checkOf}
+use Rattle.packet.specs.Words.{wordsOf, checkWord}
 use Rattle.packet.specs.Reading.{every, parityRight, countOf, userWords, coveredWords, bodyNumber}
 use Rattle.packet.proofs.TenBits.{length-wordsOf, words-part}
 use Rattle.packet.proofs.Passed.{count-byte}
@@ -37,11 +37,11 @@ users-parity c =
 users : (c : tie.Else3) → every parityRight (userWords (words (c .before .before .before .before .before .before .before .before .before))) ≡ true
 users c = sym (users-parity (c .before)) ∙ not-false _ (c .if3 .left)
 
-check-is : (c : tie.After-check-of) → c .check-of .result ≡ checkOf (coveredWords (words (c .before .before .before .before .before .before .before .before .before .before .before .before)))
+check-is : (c : tie.After-check-of) → c .check-of .result ≡ checkWord (coveredWords (words (c .before .before .before .before .before .before .before .before .before .before .before .before)))
 unfolding coveredWords
 check-is c =
     let n = c .before .before .before .before .before .before .before .count-of in
-    c .check-of .ensures ∙ ap checkOf (words-part _ 3 (n .result + 3) 6 (12 + 2 * n .result - 6) refl (omega arith) ∙ ap (λ (k : ℕ). take (k + 3) (drop 3 (words (c .before .before .before .before .before .before .before .before .before .before .before .before)))) (n .ensures))
+    c .check-of .ensures ∙ ap checkWord (words-part _ 3 (n .result + 3) 6 (12 + 2 * n .result - 6) refl (omega arith) ∙ ap (λ (k : ℕ). take (k + 3) (drop 3 (words (c .before .before .before .before .before .before .before .before .before .before .before .before)))) (n .ensures))
 
 last-is : (c : tie.After-check-of) → c .before .before .word-at2 .result ≡ getD (words (c .before .before .before .before .before .before .before .before .before .before .before .before)) (countOf (words (c .before .before .before .before .before .before .before .before .before .before .before .before)) + 6) 0
 last-is c = c .before .before .word-at2 .ensures ∙ ap (λ (k : ℕ). getD (words (c .before .before .before .before .before .before .before .before .before .before .before .before)) (k + 6) 0) (c .before .before .before .before .before .before .before .count-of .ensures)

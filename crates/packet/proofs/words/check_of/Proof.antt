@@ -4,7 +4,7 @@ use mathlib.Core.Path.{_≡_}
 use native.Mathlib.Omega.{arith}
 use borrow.Author.Needs.{needs}
 use lib.ListN.{length, drop}
-use Rattle.packet.specs.Words.{withBit9, sum9, checkOf, wordsOf}
+use Rattle.packet.specs.Words.{withBit9, sum9, checkWord, wordsOf}
 use Rattle.packet.proofs.TenBits.{length-wordsOf, sum9-next, sum9-end}
 use Rattle.packet.proofs.words.check_of.Statement.{statement}
 use Rattle.packet.proofs.words.check_of.Tie as tie
@@ -49,7 +49,7 @@ add-result : tie.Need-add-result Inv-loop μ-loop
 add-result c = search needs
 
 returns : tie.Need-returns Inv-loop μ-loop
-unfolding checkOf withBit9
+unfolding checkWord withBit9
 returns c =
     let s = c .before .before .before .args .words .now in
     omega (arith, sum9-end (wordsOf s) (c .before .loop .i) (rw length-wordsOf (search needs)))

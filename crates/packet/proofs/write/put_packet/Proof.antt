@@ -3,7 +3,7 @@ use Prim.Native.Nat.{_*_, _-_, _+_}
 use mathlib.Core.Path.{ap, _∙_}
 use native.Mathlib.Omega.{arith}
 use lib.ListN.{length}
-use Rattle.packet.specs.Words.{checkOf}
+use Rattle.packet.specs.Words.{checkWord}
 use Rattle.packet.proofs.TenBits.{front-put, covered-put, packet-put}
 use borrow.Author.Needs.{needs}
 use Rattle.packet.proofs.write.put_packet.Statement.{statement}
@@ -47,7 +47,7 @@ returns c =
     let a = c .before .before .before .before .before .before .before .before .before .before .before .before .before .before .before .before .before .args in
     let room = c .before .before .before .before .before .before .before .before .before .before .before .before .before .before .before .before .before .pre .1 in
     let front = front-put (a .container .now) (a .out .now) room _ _ (c .before .before .before .before .before .before .before .before .before .before .before .before .before .put-head .ensures) (c .before .before .before .before .before .before .before .before .before .put-users .ensures) in
-    let check = c .before .before .before .before .check-of .ensures ∙ ap checkOf (covered-put (a .container .now) (a .out .now) room _ (12 + 2 * length (a .container .now) - 6) front (omega arith)) in
+    let check = c .before .before .before .before .check-of .ensures ∙ ap checkWord (covered-put (a .container .now) (a .out .now) room _ (12 + 2 * length (a .container .now) - 6) front (omega arith)) in
     packet-put (a .container .now) (a .out .now) room _ _ _ front check (c .before .before .put-word .ensures)
 
 pub put-packet-spec : {M : Type 1} → statement M

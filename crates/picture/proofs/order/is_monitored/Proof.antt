@@ -3,7 +3,7 @@ use mathlib.Core.Path.{_≡_, sym, _∙_}
 use mathlib.Core.Bool.{false}
 use borrow.Author.Needs.{needs}
 use borrow.Author.Tests.{eq-eqb, ne-eqb}
-use Rattle.picture.specs.Lines.{among, twoFields, monitored}
+use Rattle.picture.specs.Lines.{among, interlaced, monitored}
 use Rattle.picture.proofs.order.is_monitored.Statement.{statement}
 use Rattle.picture.proofs.order.is_monitored.Tie as tie
 
@@ -18,14 +18,14 @@ unfolding monitored
 returns c = simp (sym (c .before .is-among .ensures) ∙ c .if1 .taken)
 
 returns-2 : tie.Need-returns-2
-unfolding monitored twoFields
+unfolding monitored interlaced
 returns-2 c = simp (first (c .before .before), eq-eqb _ _ (c .if2 .taken))
 
 is-among-requires-2 : tie.Need-is-among-requires-2
 is-among-requires-2 c κs = search needs
 
 returns-3 : tie.Need-returns-3
-unfolding monitored twoFields
+unfolding monitored interlaced
 returns-3 c = simp (first (c .before .before .before), ne-eqb _ _ (c .before .if2 .left), c .is-among2 .ensures)
 
 pub is-monitored-spec : {M : Type 1} → statement M

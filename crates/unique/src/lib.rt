@@ -1,0 +1,1 @@
+// Theorems about public functions, in proofs/; there is no code here.
