@@ -5,7 +5,7 @@
 help: ## this list
 	@sed -n 's/^\([a-z]*\):.*## /  make \1\t/p' $(MAKEFILE_LIST)
 
-run: ## shows card at work on a small feed: seconds unproved, then proved (about 4 minutes the first time)
+run: ## shows card at work on a small feed: seconds unproved, then proved (4 to 5 minutes the first time)
 	@tools/run
 
 test: ## proves every crate from nothing and runs every test (15 to 19 minutes)

@@ -1,4 +1,4 @@
--- Every field of any calls has 960 bytes, so that no byte is left out of a comparison.
+-- A field made of lines of 60 bytes has 960.
 use Prim.Native.Nat.{ℕ, zero, suc, _*_, _%_, _≤_}
 use mathlib.Core.Path.{_≡_, refl}
 use mathlib.Core.List.{List, [], _∷_}
