@@ -20,7 +20,7 @@ use Rattle.container_laws.proofs.Container.{says, read-back}
 use Rattle.session.specs.declared.Session.{Session}
 use Rattle.session.specs.Fingerprints.{withBlanks}
 use Rattle.session.specs.Session.{noFingerprint}
-use Rattle.demands.specs.Calls.{Setup, Call, line, sound, pack, video-restart, audio-restart, Answer, Event, answerOf}
+use Rattle.demands.specs.Calls.{Setup, Call, line, sound, instant, pack, video-restart, audio-restart, Answer, Event, answerOf}
 use Rattle.demands.specs.Paper.{samples, bytesDue, bitsPacked, audioAfter, sounded, audioSaid, contentsSaid, packedSaid, said, accepted}
 use Rattle.demands.specs.Demands.{readBack, ReadsBack, PrintRight, ContainerRight, BitsRight}
 use Rattle.demands.proofs.Listed.{Listed, listed}
@@ -53,6 +53,7 @@ module _ (u : Setup) (a : accepted u ≡ true) {es : List Event} {t : Session} (
   unfolding ReadsBack
   reads-back-right (line n b) = tt
   reads-back-right (sound k b) = tt
+  reads-back-right (instant k i) = tt
   reads-back-right (pack id out) = back id out
   reads-back-right video-restart = tt
   reads-back-right audio-restart = tt
@@ -76,6 +77,7 @@ module _ (u : Setup) (a : accepted u ≡ true) {es : List Event} {t : Session} (
   unfolding BitsRight
   bits-right (line n b) = tt
   bits-right (sound k b) = tt
+  bits-right (instant k i) = tt
   bits-right (pack id out) = λ b z. subst (λ (x : Reading). ContainerRight u es (x .contents)) (sym (back id out b z)) (contents-right id)
   bits-right video-restart = tt
   bits-right audio-restart = tt

@@ -18,6 +18,9 @@ use Rattle.session.proofs.line.Reads as line-reads
 use Rattle.session.proofs.sound
 use Rattle.session.proofs.sound.Kinds as sound-kinds
 use Rattle.session.proofs.sound.Reads as sound-reads
+use Rattle.session.proofs.instant
+use Rattle.session.proofs.instant.Kinds as instant-kinds
+use Rattle.session.proofs.instant.Reads as instant-reads
 use Rattle.session.proofs.pack
 use Rattle.session.proofs.pack.Kinds as pack-kinds
 use Rattle.session.proofs.pack.Reads as pack-reads
@@ -55,6 +58,13 @@ pub sound-contract : (κs : Lfts 1) (a : ArgsD sound.signature κs) (r : ResD so
     (saying (r .number) ≡ answerOf (a .0) c) × (r .session ≡ afterCall (a .0) c)
 unfolding answerOf afterCall
 sound-contract κs a r s p = (ap (λ (x : Sounded). saying (x .number)) p, ap (λ (x : Sounded). x .session) p)
+
+pub instant-contract : (κs : Lfts 0) (a : ArgsD instant.signature κs) (r : ResD instant.signature κs) (s : AtExit (endedOf 0 instant-kinds.ps instant-kinds.r) κs)
+    → instant-reads.Post κs a r s
+    → let c : Call = calls.instant (a .1 .0) (a .1 .1 .0) in
+    (saying (r .number) ≡ answerOf (a .0) c) × (r .session ≡ afterCall (a .0) c)
+unfolding answerOf afterCall
+instant-contract κs a r s p = (ap (λ (x : Sounded). saying (x .number)) p, ap (λ (x : Sounded). x .session) p)
 
 pub pack-contract : (κs : Lfts 2) (a : ArgsD pack.signature κs) (r : ResD pack.signature κs) (s : AtExit (endedOf 2 pack-kinds.ps pack-kinds.r) κs)
     → pack-reads.Post κs a r s

@@ -30,19 +30,19 @@ use Rattle.container.specs.Writing.{allZero, printReadable, printBlank, printsR
 use Rattle.container.proofs.Readable.{passes, print-fits}
 use Rattle.container_laws.specs.Typed.{TypedPrint, TypedPrints, Typed}
 use Rattle.container_laws.proofs.There.{read-as-written}
-use Rattle.demands.specs.Calls.{Setup, Call, line, sound, pack, video-restart, audio-restart, Answer, Event}
+use Rattle.demands.specs.Calls.{Setup, Call, line, sound, instant, pack, video-restart, audio-restart, Answer, Event}
 use Rattle.session.specs.Packing.{readyNumber}
 use Rattle.demands.specs.Paper.{waiting, made, audioAfter, sounded, contentsSaid, packedSaid, said, saidEmpty, accepted, paper, transcript}
 use Rattle.demands.specs.Demands.{readBack}
-use Rattle.demands.specs.Programs.{RightNumbers, bytesIn, RefusesLines, RefusesSound, RefusesPacks, TellsAlways, ShowsAlways, Speaks, SpeaksAlways, PacksAlways, Forgets, newest, Repeats, Invents, Claims}
+use Rattle.demands.specs.Programs.{RightNumbers, bytesIn, RefusesLines, RefusesSound, RefusesInstants, RefusesPacks, TellsAlways, ShowsAlways, Speaks, SpeaksAlways, PacksAlways, Forgets, newest, Repeats, Invents, Claims}
 use Rattle.demands.specs.Examples.{refusing, withBytes, bytesBy, altering, toldAs, telling, shownAs, withVideo, showing, printAs, withAudio, speaking, packing, forgetting, repeating, withByte, inventing, claiming}
 use Rattle.demands.proofs.Listed.{listed}
 use Rattle.demands.proofs.Packable.{said-passes, said-typed-as}
 use Rattle.demands.proofs.Against.{set-up}
 
-pub refusing-refuses : RefusesLines refusing × RefusesSound refusing × RefusesPacks refusing
+pub refusing-refuses : RefusesLines refusing × RefusesSound refusing × RefusesInstants refusing × RefusesPacks refusing
 unfolding refusing saidEmpty
-refusing-refuses = (λ u cs n b e. omega arith, λ u cs k b e. omega arith, λ u cs id out e. omega arith)
+refusing-refuses = (λ u cs n b e. omega arith, λ u cs k b e. omega arith, λ u cs k i e. omega arith, λ u cs id out e. omega arith)
 
 -- ---- Video: a value told, a value shown
 
@@ -64,6 +64,7 @@ bytes-number : (bytes : List ℕ) (c : Call) (a : Answer) → withBytes bytes c 
 unfolding withBytes
 bytes-number bytes (line n b) a = refl
 bytes-number bytes (sound k b) a = refl
+bytes-number bytes (instant k i) a = refl
 bytes-number bytes (pack id out) a = chosen (λ (x : Answer). x .number ≡ a .number) (eqb (a .number) 0) _ _ (λ e. sym (eqb-true (a .number) 0 e)) (λ _. refl)
 bytes-number bytes video-restart a = refl
 bytes-number bytes audio-restart a = refl

@@ -1,14 +1,14 @@
 -- After any events a session holds what their history says, and each call answers what document 01 says: one event more.
 use Prim.Native.Nat.{ℕ, suc, _%_, _≤_}
 use mathlib.Core.Path.{_≡_, refl, sym, ap, subst, _∙_}
-use mathlib.Core.Bool.{Bool, true, false, cond, true≢false}
-use mathlib.Core.List.{List, [], _∷_}
+use mathlib.Core.Bool.{Bool, true, false, cond, _&&_, true≢false}
+use mathlib.Core.List.{List, [], _∷_, _++_}
 use native.Mathlib.Omega.{arith}
 use native.Mathlib.Nat.{zero-add, zero-mod, mod-lt}
 use native.Mathlib.Numerals.{add-one}
 use lib.Dec.{leb, eqb}
-use lib.ListN.{length, getD}
-use borrow.Author.Tests.{leb-false, eqb-true}
+use lib.ListN.{length, getD, set}
+use borrow.Author.Tests.{leb-false, eqb-true, eq-eqb}
 use Rattle.laws.specs.Calls.{doneWith}
 use Rattle.laws.proofs.Tests.{chosen}
 use Rattle.rates.specs.Rates.{intervalOf}
@@ -19,8 +19,12 @@ use Rattle.picture.specs.declared.Picture.{Picture}
 use Rattle.picture.specs.History.{isWaiting}
 use Rattle.picture.proofs.Steps as picture
 use Rattle.fingerprint.specs.declared.Fingerprint.{Fingerprint}
-use Rattle.fingerprint.specs.State.{heardOf, soundNumber}
-use Rattle.fingerprint.proofs.Answers.{sound-paper}
+use Rattle.floats.specs.declared.Instant.{Instant}
+use Rattle.floats.specs.Instants.{floatValue}
+use Rattle.fingerprint.specs.State.{valuesOf, stepOf, heardOf, soundNumber, instantNumber}
+use Rattle.fingerprint.specs.History as fingerprint
+use Rattle.fingerprint.proofs.History.{holds-sound, holds-instant}
+use Rattle.fingerprint.proofs.Answers.{sound-paper, instant-paper}
 use Rattle.container.specs.Writing.{writeNumber, writeDone}
 use Rattle.session.specs.declared.Settings.{Settings}
 use Rattle.session.specs.declared.Session.{Session}
@@ -29,10 +33,10 @@ use Rattle.session.specs.declared.Lined.{Lined}
 use Rattle.session.specs.declared.Sounded.{Sounded}
 use Rattle.session.specs.declared.Packed.{Packed}
 use Rattle.session.specs.Fingerprints.{freshFingerprints, each, shed, printsOf}
-use Rattle.session.specs.Session.{isSet, noFingerprint, withFingerprint, lineOf, soundedNumber, soundOf, videoRestarted, audioRestarted, setupNumber, setUpWith, setupOf}
+use Rattle.session.specs.Session.{isSet, noFingerprint, reached, heardWith, lineOf, soundedNumber, soundOf, instantedNumber, instantOf, videoRestarted, audioRestarted, setupNumber, setUpWith, setupOf}
 use Rattle.session.specs.Packing.{dueOf, hasAudio, spokenOf, contentsOf, counterAfter, placeFrom, sessionAfter, packNumber, refusedWith, packedWith, packOf, packOut, readyNumber}
-use Rattle.demands.specs.Calls.{Setup, Call, line, sound, pack, video-restart, audio-restart, Answer, saying, Event, begun, answerOf, afterCall}
-use Rattle.demands.specs.Paper.{linesAt, lines, waitingAt, waiting, samplesAt, samples, madeAt, made, bytesDue, bitsPacked, audioAfter, soundedAt, sounded, audioSaid, contentsSaid, lineSaid, soundSaid, packedSaid, said, accepted}
+use Rattle.demands.specs.Calls.{Setup, Call, line, sound, instant, pack, video-restart, audio-restart, Answer, saying, Event, begun, answerOf, afterCall}
+use Rattle.demands.specs.Paper.{linesAt, lines, waitingAt, waiting, samplesAt, samples, madeAt, made, bytesDue, bitsPacked, audioAfter, soundedAt, sounded, audioSaid, contentsSaid, lineSaid, soundSaid, instantSaid, packedSaid, said, accepted}
 use Rattle.demands.proofs.Listed.{Listed, listed, settingsOf, is-set, listed-format, interval-some, cadence-some}
 use Rattle.demands.proofs.Voices.{Voices, fresh-voices, voice-at, same-voices, heard-voices, cleared-voices, all-hold, shed-voices, prints-said}
 
@@ -106,56 +110,82 @@ module _ (u : Setup) (l : Listed u) (es : List Event) (v : Picture) (n q : ℕ) 
     });
   }
 
-  -- ---- Sound
+  -- ---- Sound, in a block or in floating point: fingerprint k hears it, if it is accepted
 
-  sound-number : (k : ℕ) (b : List ℕ) → soundedNumber s k (length b) ≡ soundSaid u es k b
-  unfolding soundedNumber soundSaid
-  sound-number k b = rw (is-set u l) (go (leb (length (u .mixes)) k) refl)
+  abbrev gone : ℕ
+  gone = bitsPacked (u .rate) p
+
+  abbrev voice : ℕ → Fingerprint
+  voice k = getD fs k noFingerprint
+
+  -- the number, from what fingerprint k itself says
+  reached-is : (k : ℕ) (number said : ℕ) → (fingerprint.Holds (getD (u .mixes) k 0) d (samples es (getD (u .mixes) k 0) k) gone (voice k) → number ≡ said)
+      → reached (settingsOf u) k number ≡ cond (leb (length (u .mixes)) k) 7 said
+  reached-is k number said own = rw (is-set u l) (go (leb (length (u .mixes)) k) refl)
     where
-      go : (t : Bool) → leb (length (u .mixes)) k ≡ t
-          → cond (leb (length (u .mixes)) k) 7 (soundNumber d (getD fs k noFingerprint) (length b)) ≡ soundSaid u es k b
-      go true e = rw e refl
-      go false e =
-          let h = voice-at (o .voices) k (leb-false _ _ e) in
-          rw e (sound-paper _ d _ (bitsPacked (u .rate) p) (getD fs k noFingerprint) h b ∙ rw (zero-add k) refl)
+      go : (t : Bool) → leb (length (u .mixes)) k ≡ t → cond t 7 number ≡ cond t 7 said
+      go true e = refl
+      go false e = own (rw (zero-add k) at (voice-at (o .voices) k (leb-false _ _ e)))
 
-  -- a refused block is not heard
-  unheard : (k : ℕ) (b : List ℕ) (a : Answer) → eqb (a .number) 0 ≡ false → Holds u (record { call = sound k b; answer = a } ∷ es) s
-  unfolding lines linesAt waiting waitingAt samples samplesAt made madeAt sounded soundedAt
-  unheard k b a e = record {
-    settings = refl;
-    picture = o .picture;
-    voices = same-voices (λ m j _. rw e refl) (o .voices);
-    counter = o .counter;
-    place = o .place;
-  }
-
-  heard : (k : ℕ) (b : List ℕ) → soundedNumber s k (length b) ≡ 0
-      → Holds u (record { call = sound k b; answer = saying 0 } ∷ es) (withFingerprint s k (heardOf d (getD fs k noFingerprint) b))
-  unfolding soundedNumber lines linesAt waiting waitingAt samples samplesAt made madeAt sounded soundedAt
-  heard k b e = record {
-    settings = refl;
-    picture = o .picture;
-    voices = heard-voices b k (o .voices) k (omega arith) (number-0 (leb (length (u .mixes)) k) (rw (is-set u l) at e));
-    counter = o .counter;
-    place = o .place;
-  }
+  reached-0 : (k number : ℕ) → reached (settingsOf u) k number ≡ 0 → number ≡ 0
+  reached-0 k number e = go (leb (length (u .mixes)) k) (rw (is-set u l) at e)
     where
-      number-0 : (t : Bool) → cond t 7 (soundNumber d (getD fs k noFingerprint) (length b)) ≡ 0 → eqb (soundNumber d (getD fs k noFingerprint) (length b)) 0 ≡ true
-      number-0 true x = absurd (let z : ⊥ = omega arith in z)
-      number-0 false x = rw x refl
+      go : (t : Bool) → cond t 7 number ≡ 0 → number ≡ 0
+      go true z = absurd (let no : ⊥ = omega arith in no)
+      go false z = z
 
-  abbrev SoundRight : ℕ → List ℕ → Sounded → Type 0
-  SoundRight k b x = (x .number ≡ soundSaid u es k b) × Holds u (record { call = sound k b; answer = saying (x .number) } ∷ es) (x .session)
+  -- a call that leaves every history as it was, but that x m is heard by fingerprint k, of mix type m, if it is accepted
+  record Heard (c : Call) (k : ℕ) (x : ℕ → List ℕ) (a : Answer) : Type 0 where
+    lines-same : lines f (record { call = c; answer = a } ∷ es) ≡ lines f es
+    waiting-same : waiting f (record { call = c; answer = a } ∷ es) ≡ waiting f es
+    made-same : made (record { call = c; answer = a } ∷ es) ≡ made es
+    sounded-same : sounded u (record { call = c; answer = a } ∷ es) ≡ p
+    heard : (m j : ℕ) → cond (eqb (a .number) 0 && eqb k j) (x m ++ samples es m j) (samples es m j) ≡ samples (record { call = c; answer = a } ∷ es) m j
+
+  abbrev SoundRight : Call → ℕ → Sounded → Type 0
+  SoundRight c said x = (x .number ≡ said) × Holds u (record { call = c; answer = saying (x .number) } ∷ es) (x .session)
+
+  module _ (c : Call) (k : ℕ) (x : ℕ → List ℕ) (h : (a : Answer) → Heard c k x a) where
+    hears : (a : Answer) (gs : List Fingerprint) → Voices d gone (λ m j. cond (eqb (a .number) 0 && eqb k j) (x m ++ samples es m j) (samples es m j)) 0 (u .mixes) gs
+        → Holds u (record { call = c; answer = a } ∷ es) (by-parts u v n q gs)
+    hears a gs w =
+        let y = h a in
+        record {
+          settings = refl;
+          picture = rw (y .lines-same, y .waiting-same) (o .picture);
+          voices = rw (y .sounded-same) (same-voices (λ m j _. y .heard m j) w);
+          counter = rw (y .made-same) (o .counter);
+          place = rw (y .sounded-same) (o .place);
+        }
+
+    heard-right : (number said : ℕ) (g : Fingerprint) → number ≡ said
+        → (number ≡ 0 → (m : ℕ) (y : List ℕ) → fingerprint.Holds m d y gone (voice k) → fingerprint.Holds m d (x m ++ y) gone g)
+        → SoundRight c said (heardWith s k number g)
+    heard-right number said g e own = chosen (SoundRight c said) (eqb number 0) _ _
+        (λ z.
+        let y = eqb-true number 0 z in
+        (sym y ∙ e, hears (saying 0) (set fs k g) (heard-voices x k g (o .voices) k (omega arith) (own y))))
+        (λ z. (e, hears (saying number) fs (same-voices (λ m j _. rw z refl) (o .voices))))
 
   sound-right : (k : ℕ) (b : List ℕ) → Right u es s (sound k b)
-  unfolding answerOf afterCall said soundOf
-  sound-right k b = let r = both-ways in record { answer = ap saying (r .0); holds = r .1 }
-    where
-      both-ways : SoundRight k b (soundOf s k b)
-      both-ways = chosen (SoundRight k b) (eqb (soundedNumber s k (length b)) 0) _ _
-          (λ e. let z = eqb-true _ _ e in (sym z ∙ sound-number k b, heard k b z))
-          (λ e. (sound-number k b, unheard k b (saying (soundedNumber s k (length b))) e))
+  unfolding answerOf afterCall said soundOf soundedNumber soundSaid lines linesAt waiting waitingAt samples samplesAt made madeAt sounded soundedAt
+  sound-right k b =
+      let only : (a : Answer) → Heard (sound k b) k (λ m. valuesOf m b) a =
+      λ a. record { lines-same = refl; waiting-same = refl; made-same = refl; sounded-same = refl; heard = λ m j. refl } in
+      let number = reached-is k (soundNumber d (voice k) (length b)) _ (λ w. sound-paper _ d _ gone (voice k) w b) in
+      let r = heard-right (sound k b) k (λ m. valuesOf m b) only _ _ (heardOf d (voice k) b) number
+      (λ z m y w. holds-sound m d y gone (voice k) w b true (eq-eqb _ _ (reached-0 k _ z))) in
+      record { answer = ap saying (r .0); holds = r .1 }
+
+  instant-right : (k : ℕ) (i : Instant) → Right u es s (instant k i)
+  unfolding answerOf afterCall said instantOf instantedNumber instantSaid lines linesAt waiting waitingAt samples samplesAt made madeAt sounded soundedAt
+  instant-right k i =
+      let only : (a : Answer) → Heard (instant k i) k (λ m. floatValue i ∷ []) a =
+      λ a. record { lines-same = refl; waiting-same = refl; made-same = refl; sounded-same = refl; heard = λ m j. refl } in
+      let number = reached-is k (instantNumber d (voice k) i) _ (λ w. instant-paper _ d _ gone (voice k) w i) in
+      let r = heard-right (instant k i) k (λ m. floatValue i ∷ []) only _ _ (stepOf d (voice k) (floatValue i)) number
+      (λ z m y w. holds-instant m d y gone (voice k) w i (reached-0 k _ z)) in
+      record { answer = ap saying (r .0); holds = r .1 }
 
   -- ---- Pack
 
@@ -260,6 +290,7 @@ module _ (u : Setup) (l : Listed u) (es : List Event) (v : Picture) (n q : ℕ) 
   right-by-parts : (c : Call) → Right u es s c
   right-by-parts (line k b) = line-right k b
   right-by-parts (sound k b) = sound-right k b
+  right-by-parts (instant k i) = instant-right k i
   right-by-parts (pack id out) = pack-right id out
   right-by-parts video-restart = video-restart-right
   right-by-parts audio-restart = audio-restart-right

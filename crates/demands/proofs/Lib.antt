@@ -4,6 +4,7 @@ pub mod Demand2
 pub mod Demand3
 pub mod Frames
 pub mod Figures
+pub mod AsBlock
 pub mod Wrong
 pub mod Contracts
 pub mod Runs

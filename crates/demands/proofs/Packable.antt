@@ -43,7 +43,7 @@ use Rattle.container.proofs.Bytes.{Shaped, parts-at-most, encode-length}
 use Rattle.container_laws.specs.Typed.{TypedPrint, TypedPrints, TypedVideo, Typed}
 use Rattle.session.specs.Fingerprints.{allListed, withBlanks}
 use Rattle.session.specs.Packing.{idOf}
-use Rattle.demands.specs.Calls.{Setup, Call, line, sound, pack, video-restart, audio-restart, Event}
+use Rattle.demands.specs.Calls.{Setup, Call, line, sound, instant, pack, video-restart, audio-restart, Event}
 use Rattle.demands.specs.Paper.{linesAt, lines, waitingAt, waiting, made, bytesDue, audioAfter, sounded, printsSaid, audioSaid, contentsSaid}
 use Rattle.demands.proofs.Listed.{Listed, two-at, rate-is-listed, cadence-some}
 
@@ -57,6 +57,7 @@ lines-sized f (e ∷ es) = go (e .call) (lines-sized f es)
     go : (c : Call) → Each 60 (lines f es) → Each 60 (linesAt f c (e .answer) (lines f es))
     go (line n b) a = chosen (Each 60) (takes f n (e .answer .number)) _ _ (λ t. sizes.more (sixty (rowOf f) b) a) (λ t. a)
     go (sound k b) a = a
+    go (instant k i) a = a
     go (pack id out) a = a
     go video-restart a = sizes.none
     go audio-restart a = a
@@ -115,6 +116,7 @@ module _ (f rate : ℕ) (pairs : pairsWith f rate ≡ true) where
       go (line n b) x w =
           chosen Fits (takes f n (e .answer .number) && startsFrame f (lines f (e ∷ es))) _ _ (λ _. frame-fits (fields-sized (lines-sized f (e ∷ es)))) (λ _. w)
       go (sound k b) x w = w
+      go (instant k i) x w = w
       go (pack id out) x w = chosen Fits (eqb (e .answer .number) 0) _ _ (λ _. tt) (λ _. w)
       go video-restart x w = w
       go audio-restart x w = w

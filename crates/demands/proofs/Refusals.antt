@@ -15,9 +15,11 @@ use Rattle.sampling.specs.Formats.{rowOf}
 use Rattle.picture.specs.Lines.{monitored, orderNumber, lineNumber}
 use Rattle.picture.specs.History.{isWaiting, nextLine, numberSaid}
 use Rattle.picture.proofs.Answers.{refused-same}
+use Rattle.floats.specs.declared.Instant.{Instant}
+use Rattle.floats.specs.Instants.{refusedBy, floatValue}
 use Rattle.fingerprint.specs.State.{wholeInstants, valuesOf}
 use Rattle.fingerprint.specs.History.{keptBits}
-use Rattle.fingerprint.specs.Paper.{soundAnswer}
+use Rattle.fingerprint.specs.Paper.{soundAnswer, instantAnswer}
 use Rattle.container.specs.declared.Contents.{Contents}
 use Rattle.container.specs.declared.Reading.{Reading}
 use Rattle.container.specs.Contents.{emptyContents}
@@ -29,10 +31,10 @@ use Rattle.session.specs.declared.Begun.{Begun}
 use Rattle.session.specs.declared.Lined.{Lined}
 use Rattle.session.specs.declared.Sounded.{Sounded}
 use Rattle.session.specs.declared.Packed.{Packed}
-use Rattle.session.specs.Session.{isSet, withPicture, setupNumber, emptySession, setupOf, lineOf, soundedNumber, soundOf}
+use Rattle.session.specs.Session.{isSet, withPicture, setupNumber, emptySession, setupOf, lineOf, soundedNumber, soundOf, instantedNumber, instantOf}
 use Rattle.session.specs.Packing.{contentsOf, packNumber, refusedWith, sessionAfter, packedWith, packOf, packOut, readyNumber}
-use Rattle.demands.specs.Calls.{Setup, Call, line, sound, pack, video-restart, audio-restart, Answer, Event, begun, answerOf, afterCall}
-use Rattle.demands.specs.Paper.{lines, waiting, samples, bitsPacked, sounded, contentsSaid, lineSaid, soundSaid, packedSaid, said}
+use Rattle.demands.specs.Calls.{Setup, Call, line, sound, instant, pack, video-restart, audio-restart, Answer, Event, begun, answerOf, afterCall}
+use Rattle.demands.specs.Paper.{lines, waiting, samples, bitsPacked, sounded, contentsSaid, lineSaid, soundSaid, instantSaid, packedSaid, said}
 use Rattle.demands.specs.Demands.{lent, Untouched, numbersOf, InRow}
 use Rattle.demands.proofs.Listed.{Listed}
 use Rattle.demands.proofs.Packable.{said-writes}
@@ -64,11 +66,16 @@ module _ (s : Session) where
       (λ _ h. ap (withPicture s) (refused-same (s .programme .picture) (s .programme .settings .format) n b h))
       (λ _ _. refl)
 
-  sound-same : (k : ℕ) (b : List ℕ) → Refused (soundOf s k b .number) → soundOf s k b .session ≡ s
+  abbrev SoundSame : Sounded → Type 0
+  SoundSame x = Refused (x .number) → x .session ≡ s
+
+  sound-same : (k : ℕ) (b : List ℕ) → SoundSame (soundOf s k b)
   unfolding soundOf
-  sound-same k b = chosen (λ (x : Sounded). Refused (x .number) → x .session ≡ s) (eqb (soundedNumber s k (length b)) 0) _ _
-      (λ _ h. absurd (h refl))
-      (λ _ _. refl)
+  sound-same k b = chosen SoundSame (eqb (soundedNumber s k (length b)) 0) _ _ (λ _ h. absurd (h refl)) (λ _ _. refl)
+
+  instant-same : (k : ℕ) (i : Instant) → SoundSame (instantOf s k i)
+  unfolding instantOf
+  instant-same k i = chosen SoundSame (eqb (instantedNumber s k i) 0) _ _ (λ _ h. absurd (h refl)) (λ _ _. refl)
 
   abbrev PackSame : List ℕ → List ℕ → Packed → Type 0
   PackSame out left x = Refused (x .number) → (x .session ≡ s) × (x .written ≡ 0) × (left ≡ out)
@@ -109,6 +116,7 @@ module _ (s : Session) where
   unfolding answerOf afterCall lent
   untouched (line n b) h = record { session = line-same n b h; written = refl; out = refl }
   untouched (sound k b) h = record { session = sound-same k b h; written = refl; out = refl }
+  untouched (instant k i) h = record { session = instant-same k i h; written = refl; out = refl }
   untouched (pack id out) h = let r = pack-same id out h in record { session = r .0; written = r .1; out = r .2 }
   untouched video-restart h = absurd (h refl)
   untouched audio-restart h = absurd (h refl)
@@ -128,6 +136,7 @@ module _ (s : Session) where
   unfolding answerOf lent
   no-others-after (line n b) = refl
   no-others-after (sound k b) = refl
+  no-others-after (instant k i) = refl
   no-others-after (pack id out) = pack-others id out
   no-others-after video-restart = refl
   no-others-after audio-restart = refl
@@ -191,6 +200,19 @@ module _ (u : Setup) (l : Listed u) (es : List Event) where
       m : ℕ
       m = getD (u .mixes) k 0
 
+  instant-number : (k : ℕ) (i : Instant) → One (7 ∷ 14 ∷ 9 ∷ []) (instantSaid u es k i)
+  unfolding instantSaid instantAnswer isOneOf
+  instant-number k i =
+      chosen P (leb (length (u .mixes)) k) _ _ (λ _. refl)
+      (λ _. chosen P (refusedBy m i) _ _ (λ _. refl)
+      (λ _. chosen P (ltb (256 + bitsPacked (u .rate) (sounded u es)) (keptBits (intervalOf (u .rate)) (floatValue i ∷ samples es m k))) 9 0 (λ _. refl) (λ _. refl)))
+    where
+      P : ℕ → Type 0
+      P = One (7 ∷ 14 ∷ 9 ∷ [])
+
+      m : ℕ
+      m = getD (u .mixes) k 0
+
   pub pack-number : (id out : List ℕ) → One (10 ∷ 11 ∷ 12 ∷ []) (said u es (pack id out) .number)
   unfolding said packedSaid readyNumber writeDone writeNumber doneWith roomNumber isOneOf
   pack-number id out =
@@ -218,6 +240,7 @@ module _ (u : Setup) (l : Listed u) (es : List Event) where
   unfolding said lineSaid numberSaid numbersOf isOneOf
   in-row (line n b) = line-number (u .format) (nextLine (u .format) (lines (u .format) es)) (isWaiting (waiting (u .format) es)) n (length b)
   in-row (sound k b) = sound-number k b
+  in-row (instant k i) = instant-number k i
   in-row (pack id out) = more-rows (said u es (pack id out) .number) (pack-number id out)
   in-row video-restart = refl
   in-row audio-restart = refl
@@ -227,6 +250,7 @@ pub not-1 : (c : Call) (n : ℕ) → isOneOf n (0 ∷ numbersOf c) ≡ true → 
 unfolding isOneOf numbersOf
 not-1 (line k b) n e z = false≢true (rw z at e)
 not-1 (sound k b) n e z = false≢true (rw z at e)
+not-1 (instant k i) n e z = false≢true (rw z at e)
 not-1 (pack id out) n e z = false≢true (rw z at e)
 not-1 video-restart n e z = false≢true (rw z at e)
 not-1 audio-restart n e z = false≢true (rw z at e)

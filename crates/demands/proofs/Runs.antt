@@ -11,9 +11,9 @@ use Rattle.rates.specs.Rates.{pairsWith}
 use Rattle.session.specs.declared.Session.{Session}
 use Rattle.session.specs.declared.Begun.{Begun}
 use Rattle.session.specs.Fingerprints.{allListed}
-use Rattle.session.specs.Session.{isSet, setupNumber, setUpWith, emptySession, setupOf, lineOf, soundedNumber, soundOf, videoRestarted, audioRestarted}
+use Rattle.session.specs.Session.{isSet, setupNumber, setUpWith, emptySession, setupOf, lineOf, soundedNumber, soundOf, instantedNumber, instantOf, videoRestarted, audioRestarted}
 use Rattle.session.specs.Packing.{packNumber, packOf, packOut}
-use Rattle.demands.specs.Calls.{Setup, Call, line, sound, pack, video-restart, audio-restart, Answer, Event, calls, begun, answerOf, afterCall, Run, none, then}
+use Rattle.demands.specs.Calls.{Setup, Call, line, sound, instant, pack, video-restart, audio-restart, Answer, Event, calls, begun, answerOf, afterCall, Run, none, then}
 use Rattle.demands.specs.Paper.{said, saidEmpty, accepted, paper, Program, transcript}
 use Rattle.demands.specs.Demands.{sessionAt, card, Every}
 use Rattle.demands.proofs.Listed.{listed}
@@ -50,19 +50,21 @@ setup-1 f r mixes =
     P : ℕ → Type 0
     P n = (n ≡ 0 → ⊥) → n ≡ 1
 
--- ---- the empty session: Line, Sound and Pack return 1, and nothing changes it
+-- ---- the empty session: Line, Sound, an instant and Pack return 1, and nothing changes it
 pub empty-answers : (c : Call) → answerOf emptySession c ≡ saidEmpty c
-unfolding emptySession setUpWith isSet pairsWith answerOf saidEmpty lineOf soundedNumber soundOf packNumber packOf packOut
+unfolding emptySession setUpWith isSet pairsWith answerOf saidEmpty lineOf soundedNumber soundOf instantedNumber instantOf packNumber packOf packOut
 empty-answers (line n b) = refl
 empty-answers (sound k b) = refl
+empty-answers (instant k i) = refl
 empty-answers (pack id out) = refl
 empty-answers video-restart = refl
 empty-answers audio-restart = refl
 
 pub empty-stays : (c : Call) → afterCall emptySession c ≡ emptySession
-unfolding emptySession setUpWith isSet pairsWith afterCall lineOf soundedNumber soundOf packNumber packOf videoRestarted audioRestarted
+unfolding emptySession setUpWith isSet pairsWith afterCall lineOf soundedNumber soundOf instantedNumber instantOf packNumber packOf videoRestarted audioRestarted
 empty-stays (line n b) = refl
 empty-stays (sound k b) = refl
+empty-stays (instant k i) = refl
 empty-stays (pack id out) = refl
 empty-stays video-restart = refl
 empty-stays audio-restart = refl

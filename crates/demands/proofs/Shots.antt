@@ -7,6 +7,8 @@ use mathlib.Core.List.{List, [], _∷_, _++_}
 use native.Mathlib.Omega.{arith}
 use native.Mathlib.Nat.{not-suc-le-zero}
 use lib.Dec.{eqb}
+use lib.IntN.{pos}
+use lib.Ieee.{fin, isNan}
 use lib.ListN.{length, getD, replicate, length-replicate, getD-replicate}
 use borrow.Author.Tests.{eqb-true, eqb-false, eq-eqb, ne-eqb, le-leb}
 use Rattle.laws.proofs.Bytes.{bytes-nil}
@@ -16,20 +18,23 @@ use Rattle.rates.specs.Cadence.{cadence, cadences}
 use Rattle.sampling.specs.Formats.{rowOf}
 use Rattle.sampling.specs.Samples.{pixels}
 use Rattle.picture.specs.History.{Waiting, no-frame, a-frame, isWaiting, fields, frameShows}
+use Rattle.floats.specs.declared.Instant.{Instant}
+use Rattle.floats.specs.declared.Instant.the-variants.{Mono}
+use Rattle.floats.specs.Instants.{hasNan}
 use Rattle.fingerprint.specs.State.{valuesOf}
-use Rattle.fingerprint.specs.History.{bitIn}
-use Rattle.fingerprint.specs.Paper.{soundAnswer, heldAnswer, Right}
+use Rattle.fingerprint.specs.History.{keptAmong, keptBits, bitIn}
+use Rattle.fingerprint.specs.Paper.{soundAnswer, instantAnswer, heldAnswer, Right}
 use Rattle.container.specs.declared.Print.{Print}
 use Rattle.container.specs.Contents.{blankPrint}
 use Rattle.session.specs.Fingerprints.{allListed}
 use Rattle.session.specs.Session.{setupNumber}
-use Rattle.demands.specs.Calls.{Setup, Call, sound, pack}
-use Rattle.demands.specs.Paper.{bytesDue, bitsPacked, everyHolds, audioAfter, sounded, accepted, Program, transcript}
+use Rattle.demands.specs.Calls.{Setup, Call, sound, instant, pack}
+use Rattle.demands.specs.Paper.{samples, bytesDue, bitsPacked, everyHolds, audioAfter, sounded, instantSaid, said, accepted, Program, transcript}
 use Rattle.demands.specs.Demands.{Every, readBack, PrintRight, BitsRight, Demand3}
 use Rattle.demands.specs.Programs.{Speaks}
 use Rattle.demands.proofs.Fade.{click, silence, faded, click-values, all-values, kept-120, click-taken, silence-taken, far-above, far-below}
 use Rattle.demands.proofs.Spoken.{some-byte}
-use Rattle.demands.proofs.Story.{hd, Follows, room, rows, nothing, hears, T, At, start, sound-0, sound-at, packs, audio-is, pack-at, frame-at}
+use Rattle.demands.proofs.Story.{hd, Follows, room, rows, nothing, hears, T, At, start, number-is, sound-0, sound-at, packs, audio-is, pack-at, frame-at}
 
 -- a black line
 unfoldable pub dark : List ℕ
@@ -153,10 +158,18 @@ spans (suc zero) l = record { fifty = refl; fit = omega arith }
 spans (suc (suc zero)) l = record { fifty = refl; fit = omega arith }
 spans (suc (suc (suc n))) l = absurd (let z : ⊥ = omega arith in z)
 
+-- an instant in floating point: 0.0
+abbrev pub still : Instant
+still = Mono (fin false 0 (pos 0))
+
 module _ {p : Program} (g : Follows 3 (monos 1) p) where
   pub first-block : p u (T g []) (sound 0 click) .number ≡ 0
   unfolding intervalOf bitsPacked
   first-block = sound-0 g (start g) 0 (omega arith) click click-taken
+
+  pub first-instant : p u (T g []) (instant 0 still) .number ≡ 0
+  unfolding transcript said instantSaid instantAnswer hasNan isNan samples sounded bitsPacked intervalOf keptBits keptAmong
+  first-instant = number-is g [] (instant 0 still)
 
   pub at-1 : At g (first 1) (line16 ++ []) (a-frame (frameShows 2 (fields (line16 ++ [])))) (played 1) 0 0
   at-1 = at-first 1 g (spans 0 (omega arith))

@@ -10,10 +10,10 @@ use lib.ListN.{length, getD, set, replicate}
 use borrow.Author.Tests.{le-leb, eq-eqb, ne-eqb}
 use Rattle.laws.proofs.Tests.{both}
 use Rattle.fingerprint.specs.declared.Fingerprint.{Fingerprint}
-use Rattle.fingerprint.specs.State.{freshOf, valuesOf, heardOf, soundNumber, takeOf}
+use Rattle.fingerprint.specs.State.{freshOf, takeOf}
 use Rattle.fingerprint.specs.History.{bytesFrom, Holds}
 use Rattle.fingerprint.specs.Paper.{heldAnswer, leaveAnswer, bytesAnswer, AllRight}
-use Rattle.fingerprint.proofs.History.{holds-fresh, holds-sound, holds-take, holds-restart}
+use Rattle.fingerprint.proofs.History.{holds-fresh, holds-take, holds-restart}
 use Rattle.fingerprint.proofs.Answers.{holds-paper, can-take-paper, taken-paper, all-right}
 use Rattle.container.specs.declared.Print.{Print}
 use Rattle.session.specs.Fingerprints.{each, cleared, shed, allHold, printOf, printsOf}
@@ -42,19 +42,18 @@ pub same-voices : {d g : ℕ} {h h′ : ℕ → ℕ → List ℕ} {k : ℕ} {ms 
 same-voices e none = none
 same-voices {k = k} e (more {m = m} v vs) = more (rw (e m k (omega arith)) at v) (same-voices (λ m n l. e m n (omega arith)) vs)
 
--- a block that the i-th takes, number j
-pub heard-voices : {d g : ℕ} {h : ℕ → ℕ → List ℕ} {k : ℕ} {ms : List ℕ} {fs : List Fingerprint} (b : List ℕ) (j : ℕ) → Voices d g h k ms fs
-    → (i : ℕ) → j ≡ k + i → eqb (soundNumber d (getD fs i noFingerprint) (length b)) 0 ≡ true
-    → Voices d g (λ m n. cond (eqb j n) (valuesOf m b ++ h m n) (h m n)) k ms (set fs i (heardOf d (getD fs i noFingerprint) b))
-heard-voices b j none i e a = none
-heard-voices {d} {g} {h} {k} b j (more {m = m} {f = f} v vs) zero e a =
-    let x : Holds m d (cond (eqb j k) (valuesOf m b ++ h m k) (h m k)) g (heardOf d f b) =
-    rw (eq-eqb j k (omega arith)) (holds-sound m d (h m k) g f v b true a) in
-    more x
+-- the i-th, number j, has heard more: x m if it is of mix type m; that makes it f
+pub heard-voices : {d g : ℕ} {h : ℕ → ℕ → List ℕ} {k : ℕ} {ms : List ℕ} {fs : List Fingerprint} (x : ℕ → List ℕ) (j : ℕ) (f : Fingerprint) → Voices d g h k ms fs
+    → (i : ℕ) → j ≡ k + i → ((m : ℕ) (y : List ℕ) → Holds m d y g (getD fs i noFingerprint) → Holds m d (x m ++ y) g f)
+    → Voices d g (λ m n. cond (eqb j n) (x m ++ h m n) (h m n)) k ms (set fs i f)
+heard-voices x j f none i e a = none
+heard-voices {d} {g} {h} {k} x j f (more {m = m} v vs) zero e a =
+    let z : Holds m d (cond (eqb j k) (x m ++ h m k) (h m k)) g f = rw (eq-eqb j k (omega arith)) (a m (h m k) v) in
+    more z
     (same-voices (λ m n l. rw (ne-eqb j n (omega arith)) refl) vs)
-heard-voices {d} {g} {h} {k} b j (more {m = m} {f = f} v vs) (suc i) e a =
-    let x : Holds m d (cond (eqb j k) (valuesOf m b ++ h m k) (h m k)) g f = rw (ne-eqb j k (omega arith)) v in
-    more x (heard-voices b j vs i (omega arith) a)
+heard-voices {d} {g} {h} {k} x j f (more {m = m} {f = e₀} v vs) (suc i) e a =
+    let z : Holds m d (cond (eqb j k) (x m ++ h m k) (h m k)) g e₀ = rw (ne-eqb j k (omega arith)) v in
+    more z (heard-voices x j f vs i (omega arith) a)
 
 -- an audio restart
 pub cleared-voices : {d g : ℕ} {h : ℕ → ℕ → List ℕ} {k : ℕ} {ms : List ℕ} {fs : List Fingerprint} → Voices d g h k ms fs

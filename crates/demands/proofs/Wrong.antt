@@ -12,11 +12,11 @@ use Rattle.container.specs.Reading.{reading}
 use Rattle.demands.specs.Calls.{Setup, line, pack, Answer}
 use Rattle.demands.specs.Paper.{accepted, Program, transcript}
 use Rattle.demands.specs.Demands.{readBack, Demand2, Demand3}
-use Rattle.demands.specs.Programs.{RightNumbers, RefusesLines, RefusesSound, RefusesPacks, TellsAlways, ShowsAlways, Speaks, SpeaksAlways, PacksAlways, Forgets, Repeats, Invents, Claims}
+use Rattle.demands.specs.Programs.{RightNumbers, RefusesLines, RefusesSound, RefusesInstants, RefusesPacks, TellsAlways, ShowsAlways, Speaks, SpeaksAlways, PacksAlways, Forgets, Repeats, Invents, Claims}
 use Rattle.demands.specs.Examples.{refusing, telling, showing, speaking, packing, forgetting, repeating, inventing, claiming}
 use Rattle.demands.proofs.Fade.{click}
 use Rattle.demands.proofs.Story.{room}
-use Rattle.demands.proofs.Shots.{dark, first, second, third, u, is-accepted, first-block, packs-1, packs-2, packs-3, audio-1, audio-3, never-both}
+use Rattle.demands.proofs.Shots.{dark, first, second, third, u, is-accepted, still, first-block, first-instant, packs-1, packs-2, packs-3, audio-1, audio-3, never-both}
 use Rattle.demands.proofs.Against.{as-said, right-numbers, follows, followed, bits-too, counts, spoken, speaks, reads-same, speaks-same, second-is-first, third-is-first, first-some}
 use Rattle.demands.proofs.Pictured.{first-row, not-again, gives-0, gives-240, told-is, shown-is}
 use Rattle.demands.proofs.Invented.{two, in-one-first, in-two-first, in-two-second, of-two-first, of-two-second, one-first-is, two-first-is, two-second-is}
@@ -29,6 +29,10 @@ refusing-lines-2 p r d = r u [] 117 dark (ap (λ (a : Answer). a .number) (as-sa
 -- so is the first block
 pub refusing-sound-2 : (p : Program) → RefusesSound p → Demand2 p → ⊥
 refusing-sound-2 p r d = r u [] 0 click (first-block (follows p d is-accepted))
+
+-- the first instant in floating point
+pub refusing-instants-2 : (p : Program) → RefusesInstants p → Demand2 p → ⊥
+refusing-instants-2 p r d = r u [] 0 still (first-instant (follows p d is-accepted))
 
 -- and the first Pack with a frame to pack
 pub refusing-packs-2 : (p : Program) → RefusesPacks p → Demand2 p → ⊥
@@ -127,7 +131,7 @@ invented-count p x f d =
 
 -- ---- There are such programs, whatever the value, the bytes or the size
 
-pub some-refusing : RefusesLines refusing × RefusesSound refusing × RefusesPacks refusing
+pub some-refusing : RefusesLines refusing × RefusesSound refusing × RefusesInstants refusing × RefusesPacks refusing
 some-refusing = refusing-refuses
 
 pub some-told : (v : Setup → ℕ) → TellsAlways v (telling v)

@@ -4,8 +4,9 @@ use mathlib.Core.List.{List, [], _∷_}
 use lib.ListN.{length}
 use Rattle.picture.specs.declared.Told.{Told}
 use Rattle.picture.specs.declared.Told.the-variants.{Open}
+use Rattle.floats.specs.declared.Instant.{Instant}
 use Rattle.session.specs.declared.Session.{Session}
-use Rattle.session.specs.Session.{setupOf, lineOf, soundOf, videoRestarted, audioRestarted}
+use Rattle.session.specs.Session.{setupOf, lineOf, soundOf, instantOf, videoRestarted, audioRestarted}
 use Rattle.session.specs.Packing.{packOf, packOut}
 
 -- what Setup is given
@@ -14,10 +15,11 @@ pub record Setup : Type 0 where
   pub rate : ℕ
   pub mixes : List ℕ
 
--- line number n with its bytes; a block of fingerprint k; the bytes lent for the ID and the buffer lent for the container; the restarts
+-- line number n with its bytes; a block of fingerprint k; an instant of it in floating point; the bytes lent for the ID and the buffer lent for the container; the restarts
 pub data Call : Type 0 where
   line : ℕ → List ℕ → Call
   sound : ℕ → List ℕ → Call
+  instant : ℕ → Instant → Call
   pack : List ℕ → List ℕ → Call
   video-restart : Call
   audio-restart : Call
@@ -49,6 +51,7 @@ begun u = setupOf (u .format) (u .rate) (u .mixes) .session
 unfoldable pub answerOf : Session → Call → Answer
 answerOf s (line n b) = record { number = lineOf s n b .number; told = lineOf s n b .told; written = 0; out = [] }
 answerOf s (sound k b) = saying (soundOf s k b .number)
+answerOf s (instant k i) = saying (instantOf s k i .number)
 answerOf s (pack id out) =
     record { number = packOf s id (length out) .number; told = Open; written = packOf s id (length out) .written; out = packOut s id out }
 answerOf s video-restart = saying 0
@@ -57,6 +60,7 @@ answerOf s audio-restart = saying 0
 unfoldable pub afterCall : Session → Call → Session
 afterCall s (line n b) = lineOf s n b .session
 afterCall s (sound k b) = soundOf s k b .session
+afterCall s (instant k i) = instantOf s k i .session
 afterCall s (pack id out) = packOf s id (length out) .session
 afterCall s video-restart = videoRestarted s
 afterCall s audio-restart = audioRestarted s

@@ -14,7 +14,7 @@ use Rattle.container.specs.declared.Reading.{Reading}
 use Rattle.container.specs.Contents.{blankPrint}
 use Rattle.container.specs.Reading.{reading}
 use Rattle.session.specs.declared.Session.{Session}
-use Rattle.demands.specs.Calls.{Setup, Call, line, sound, pack, video-restart, audio-restart, Answer, Event, calls, begun, answerOf, afterCall}
+use Rattle.demands.specs.Calls.{Setup, Call, line, sound, instant, pack, video-restart, audio-restart, Answer, Event, calls, begun, answerOf, afterCall}
 use Rattle.demands.specs.Paper.{samples, bitsPacked, sounded, contentsSaid, accepted, paper, Program, transcript}
 
 -- the session that the calls lead to, the newest first; it answers the next
@@ -36,6 +36,7 @@ Every P (e ∷ es) = P es (e .call) (e .answer) × Every P es
 unfoldable pub lent : Call → List ℕ
 lent (line n b) = []
 lent (sound k b) = []
+lent (instant k i) = []
 lent (pack id out) = out
 lent video-restart = []
 lent audio-restart = []
@@ -46,10 +47,11 @@ pub record Untouched (s : Session) (c : Call) : Type 0 where
   pub written : answerOf s c .written ≡ 0
   pub out : answerOf s c .out ≡ lent c
 
--- the row of a call in the table of numbers; "Restarts are never refused"
+-- the row of a call in the table of numbers, an instant's being 02's; "Restarts are never refused"
 unfoldable pub numbersOf : Call → List ℕ
 numbersOf (line n b) = 2 ∷ 3 ∷ 4 ∷ 5 ∷ []
 numbersOf (sound k b) = 7 ∷ 8 ∷ 9 ∷ []
+numbersOf (instant k i) = 7 ∷ 14 ∷ 9 ∷ []
 numbersOf (pack id out) = 10 ∷ 11 ∷ 13 ∷ 12 ∷ []
 numbersOf video-restart = []
 numbersOf audio-restart = []
@@ -71,6 +73,7 @@ readBack a = reading (take (a .written) (a .out))
 unfoldable pub ReadsBack : Setup → List Event → Call → Answer → Type 0
 ReadsBack u es (line n b) a = Unit {0}
 ReadsBack u es (sound k b) a = Unit {0}
+ReadsBack u es (instant k i) a = Unit {0}
 ReadsBack u es (pack id out) a = Bytes id → a .number ≡ 0 → readBack a ≡ record { number = 0; contents = contentsSaid u es id }
 ReadsBack u es video-restart a = Unit {0}
 ReadsBack u es audio-restart a = Unit {0}
@@ -89,6 +92,7 @@ ContainerRight u es c = (k : ℕ) → k < c .count → PrintRight u es (getD (c 
 unfoldable pub BitsRight : Setup → List Event → Call → Answer → Type 0
 BitsRight u es (line n b) a = Unit {0}
 BitsRight u es (sound k b) a = Unit {0}
+BitsRight u es (instant k i) a = Unit {0}
 BitsRight u es (pack id out) a = Bytes id → a .number ≡ 0 → ContainerRight u es (readBack a .contents)
 BitsRight u es video-restart a = Unit {0}
 BitsRight u es audio-restart a = Unit {0}

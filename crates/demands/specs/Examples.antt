@@ -13,7 +13,7 @@ use Rattle.laws.specs.declared.Video.{Video}
 use Rattle.laws.specs.declared.Video.the-variants.{Absent, One, Two}
 use Rattle.container.specs.declared.Contents.{Contents}
 use Rattle.container.specs.Bytes.{encode}
-use Rattle.demands.specs.Calls.{Setup, Call, line, sound, pack, video-restart, audio-restart, Answer, Event}
+use Rattle.demands.specs.Calls.{Setup, Call, line, sound, instant, pack, video-restart, audio-restart, Answer, Event}
 use Rattle.demands.specs.Paper.{made, contentsSaid, saidEmpty, paper, Program}
 use Rattle.demands.specs.Programs.{newest}
 
@@ -25,6 +25,7 @@ refusing u es c = saidEmpty c
 unfoldable pub withBytes : List ℕ → Call → Answer → Answer
 withBytes bytes (line n b) a = a
 withBytes bytes (sound k b) a = a
+withBytes bytes (instant k i) a = a
 withBytes bytes (pack id out) a = cond (eqb (a .number) 0) (record { number = 0; told = Open; written = length bytes; out = over bytes out }) a
 withBytes bytes video-restart a = a
 withBytes bytes audio-restart a = a
@@ -33,6 +34,7 @@ withBytes bytes audio-restart a = a
 unfoldable pub bytesBy : (Contents → Contents) → Setup → List Event → Call → List ℕ
 bytesBy e u es (line n b) = []
 bytesBy e u es (sound k b) = []
+bytesBy e u es (instant k i) = []
 bytesBy e u es (pack id out) = encode (e (contentsSaid u es id))
 bytesBy e u es video-restart = []
 bytesBy e u es audio-restart = []
@@ -91,6 +93,7 @@ repeating u es c = cond (eqb (made es) 0) (paper u es c) (withBytes (newest es) 
 unfoldable pub withByte : ℕ → ℕ → Call → Answer → Answer
 withByte i x (line n b) a = a
 withByte i x (sound k b) a = a
+withByte i x (instant k v) a = a
 withByte i x (pack id out) a = record { number = a .number; told = a .told; written = a .written; out = cond (eqb (a .number) 0) (set (a .out) i x) (a .out) }
 withByte i x video-restart a = a
 withByte i x audio-restart a = a

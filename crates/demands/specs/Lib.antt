@@ -2,5 +2,6 @@
 pub mod Calls
 pub mod Paper
 pub mod Demands
+pub mod Blocks
 pub mod Programs
 pub mod Examples

@@ -1,4 +1,4 @@
--- Document 01 as a function of what was set up and of the calls and answers so far: no slot, no store of bits, no wait, no counter and no place is kept.
+-- Document 01, with 02's A3, as a function of what was set up and of the calls and answers so far: no slot, no store of bits, no wait, no counter and no place is kept.
 use Prim.Native.Nat.{ℕ, zero, suc, _+_, _-_, _*_, _%_}
 use mathlib.Core.Bool.{Bool, true, cond, _&&_}
 use mathlib.Core.List.{List, [], _∷_, _++_}
@@ -8,16 +8,18 @@ use Rattle.rates.specs.Rates.{intervalOf}
 use Rattle.rates.specs.Cadence.{cadence}
 use Rattle.picture.specs.declared.Told.the-variants.{Open}
 use Rattle.picture.specs.History.{Waiting, no-frame, isWaiting, waitingShows, linesAfter, waitingAfter, numberSaid, toldSaid}
+use Rattle.floats.specs.declared.Instant.{Instant}
+use Rattle.floats.specs.Instants.{floatValue}
 use Rattle.fingerprint.specs.State.{valuesOf}
 use Rattle.fingerprint.specs.History.{bytesFrom}
-use Rattle.fingerprint.specs.Paper.{soundAnswer, heldAnswer}
+use Rattle.fingerprint.specs.Paper.{soundAnswer, instantAnswer, heldAnswer}
 use Rattle.container.specs.declared.Print.{Print}
 use Rattle.container.specs.declared.Contents.{Contents}
 use Rattle.container.specs.Writing.{writeDone, writeOut}
 use Rattle.session.specs.Fingerprints.{withBlanks}
 use Rattle.session.specs.Session.{setupNumber}
 use Rattle.session.specs.Packing.{idOf, readyNumber}
-use Rattle.demands.specs.Calls.{Setup, Call, line, sound, pack, video-restart, audio-restart, Answer, saying, Event}
+use Rattle.demands.specs.Calls.{Setup, Call, line, sound, instant, pack, video-restart, audio-restart, Answer, saying, Event}
 
 -- ---- Histories. Of each: what one event more does, and all events, the newest first.
 
@@ -25,6 +27,7 @@ use Rattle.demands.specs.Calls.{Setup, Call, line, sound, pack, video-re
 unfoldable pub linesAt : ℕ → Call → Answer → List (List ℕ) → List (List ℕ)
 linesAt f (line n b) a ls = linesAfter f n b (a .number) ls
 linesAt f (sound k b) a ls = ls
+linesAt f (instant k i) a ls = ls
 linesAt f (pack id out) a ls = ls
 linesAt f video-restart a ls = []
 linesAt f audio-restart a ls = ls
@@ -37,6 +40,7 @@ lines f (e ∷ es) = linesAt f (e .call) (e .answer) (lines f es)
 unfoldable pub waitingAt : ℕ → Call → Answer → List (List ℕ) → Waiting → Waiting
 waitingAt f (line n b) a ls w = waitingAfter f n (a .number) ls w
 waitingAt f (sound k b) a ls w = w
+waitingAt f (instant k i) a ls w = w
 waitingAt f (pack id out) a ls w = cond (eqb (a .number) 0) no-frame w
 waitingAt f video-restart a ls w = w
 waitingAt f audio-restart a ls w = w
@@ -49,6 +53,7 @@ waiting f (e ∷ es) = waitingAt f (e .call) (e .answer) (lines f (e ∷ es)) (w
 unfoldable pub samplesAt : Call → Answer → ℕ → ℕ → List ℕ → List ℕ
 samplesAt (line n b) a mix k h = h
 samplesAt (sound j b) a mix k h = cond (eqb (a .number) 0 && eqb j k) (valuesOf mix b ++ h) h
+samplesAt (instant j i) a mix k h = cond (eqb (a .number) 0 && eqb j k) (floatValue i ∷ h) h
 samplesAt (pack id out) a mix k h = h
 samplesAt video-restart a mix k h = h
 samplesAt audio-restart a mix k h = []
@@ -61,6 +66,7 @@ samples (e ∷ es) mix k = samplesAt (e .call) (e .answer) mix k (samples es mix
 unfoldable pub madeAt : Call → Answer → ℕ → ℕ
 madeAt (line n b) a m = m
 madeAt (sound k b) a m = m
+madeAt (instant k i) a m = m
 madeAt (pack id out) a m = cond (eqb (a .number) 0) (m + 1) m
 madeAt video-restart a m = m
 madeAt audio-restart a m = m
@@ -93,6 +99,7 @@ audioAfter u p es = everyHolds (intervalOf (u .rate)) (bitsPacked (u .rate) p) (
 unfoldable pub soundedAt : Call → Answer → Bool → ℕ → ℕ
 soundedAt (line n b) a audio p = p
 soundedAt (sound k b) a audio p = p
+soundedAt (instant k i) a audio p = p
 soundedAt (pack id out) a audio p = cond (eqb (a .number) 0 && audio) (suc p) p
 soundedAt video-restart a audio p = p
 soundedAt audio-restart a audio p = 0
@@ -136,6 +143,12 @@ soundSaid u es k b =
     cond (leb (length (u .mixes)) k) 7
     (soundAnswer (getD (u .mixes) k 0) (intervalOf (u .rate)) (samples es (getD (u .mixes) k 0) k) (bitsPacked (u .rate) (sounded u es)) b)
 
+-- "14 .., after 7 and before 9"
+unfoldable pub instantSaid : Setup → List Event → ℕ → Instant → ℕ
+instantSaid u es k i =
+    cond (leb (length (u .mixes)) k) 7
+    (instantAnswer (getD (u .mixes) k 0) (intervalOf (u .rate)) (samples es (getD (u .mixes) k 0) k) (bitsPacked (u .rate) (sounded u es)) i)
+
 -- "10 no ready frame; 11 ID length neither 0 nor 20" (`readyNumber`); then what Write answers for these contents, "13; 12" being its
 unfoldable pub packedSaid : ℕ → Contents → List ℕ → Answer
 packedSaid number c out =
@@ -146,6 +159,7 @@ packedSaid number c out =
 unfoldable pub said : Setup → List Event → Call → Answer
 said u es (line n b) = lineSaid (u .format) (lines (u .format) es) (waiting (u .format) es) n b
 said u es (sound k b) = saying (soundSaid u es k b)
+said u es (instant k i) = saying (instantSaid u es k i)
 said u es (pack id out) = packedSaid (readyNumber (isWaiting (waiting (u .format) es)) (length id)) (contentsSaid u es id) out
 said u es video-restart = saying 0
 said u es audio-restart = saying 0
@@ -154,6 +168,7 @@ said u es audio-restart = saying 0
 unfoldable pub saidEmpty : Call → Answer
 saidEmpty (line n b) = saying 1
 saidEmpty (sound k b) = saying 1
+saidEmpty (instant k i) = saying 1
 saidEmpty (pack id out) = record { number = 1; told = Open; written = 0; out = out }
 saidEmpty video-restart = saying 0
 saidEmpty audio-restart = saying 0

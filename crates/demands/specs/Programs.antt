@@ -7,11 +7,12 @@ use mathlib.Core.List.{List, [], _∷_}
 use lib.Dec.{eqb}
 use lib.ListN.{length, getD, take}
 use Rattle.laws.specs.Bytes.{Bytes}
+use Rattle.floats.specs.declared.Instant.{Instant}
 use Rattle.picture.specs.declared.Told.the-variants.{Value}
 use Rattle.laws.specs.declared.Video.the-variants.{Absent}
 use Rattle.container.specs.declared.Contents.{Contents}
 use Rattle.container.specs.Contents.{blankPrint}
-use Rattle.demands.specs.Calls.{Setup, Call, line, sound, pack, video-restart, audio-restart, Answer, Event}
+use Rattle.demands.specs.Calls.{Setup, Call, line, sound, instant, pack, video-restart, audio-restart, Answer, Event}
 use Rattle.demands.specs.Paper.{made, audioAfter, sounded, contentsSaid, paper, Program, transcript}
 use Rattle.demands.specs.Demands.{readBack}
 
@@ -27,13 +28,16 @@ RightNumbers p = Throughout p (λ u es. (c : Call) → p u es c .number ≡ pape
 abbrev pub bytesIn : Answer → List ℕ
 bytesIn a = take (a .written) (a .out)
 
--- ---- "one that refuses everything", with whatever numbers: every line, every block or every Pack is enough
+-- ---- "one that refuses everything", with whatever numbers: every line, every block, every instant or every Pack is enough
 
 abbrev pub RefusesLines : Program → Type 0
 RefusesLines p = Throughout p (λ u es. (n : ℕ) (b : List ℕ) → p u es (line n b) .number ≡ 0 → ⊥)
 
 abbrev pub RefusesSound : Program → Type 0
 RefusesSound p = Throughout p (λ u es. (k : ℕ) (b : List ℕ) → p u es (sound k b) .number ≡ 0 → ⊥)
+
+abbrev pub RefusesInstants : Program → Type 0
+RefusesInstants p = Throughout p (λ u es. (k : ℕ) (i : Instant) → p u es (instant k i) .number ≡ 0 → ⊥)
 
 abbrev pub RefusesPacks : Program → Type 0
 RefusesPacks p = Throughout p (λ u es. (id out : List ℕ) → p u es (pack id out) .number ≡ 0 → ⊥)
@@ -77,6 +81,7 @@ Forgets p = Throughout p (λ u es. (c : Call) → p u es c ≡ p u [] c)
 unfoldable pub newestAt : Call → Answer → List ℕ → List ℕ
 newestAt (line n b) a bytes = bytes
 newestAt (sound k b) a bytes = bytes
+newestAt (instant k i) a bytes = bytes
 newestAt (pack id out) a bytes = cond (eqb (a .number) 0) (bytesIn a) bytes
 newestAt video-restart a bytes = bytes
 newestAt audio-restart a bytes = bytes

@@ -12,10 +12,11 @@ use borrow.Author.Tests.{le-leb, lt-leb, lt-ltb, le-ltb}
 use Rattle.sound.specs.Exact.{exactEnvelope, exactMean, Near}
 use Rattle.sound.proofs.Whole.{by-order}
 use Rattle.sound.proofs.Exact.{envelope-near, mean-near, bit-one, bit-zero}
+use Rattle.floats.specs.declared.Instant.{Instant}
 use Rattle.fingerprint.specs.declared.Fingerprint.{Fingerprint}
-use Rattle.fingerprint.specs.State.{newBits, instants, valuesOf, soundNumber, holdsOf, firstBytes, canTake, takeOf}
+use Rattle.fingerprint.specs.State.{newBits, instants, valuesOf, soundNumber, instantNumber, holdsOf, firstBytes, canTake, takeOf}
 use Rattle.fingerprint.specs.History.{upTo, bitAt, keptAmong, keptBits, bitsFrom, fromBits, bytesFrom, bitIn, Holds}
-use Rattle.fingerprint.specs.Paper.{soundAnswer, heldAnswer, leaveAnswer, bytesAnswer, Right, AllRight}
+use Rattle.fingerprint.specs.Paper.{soundAnswer, instantAnswer, heldAnswer, leaveAnswer, bytesAnswer, Right, AllRight}
 use Rattle.fingerprint.proofs.Bits.{bit, bit-at, byte-is}
 use Rattle.fingerprint.proofs.History.{holds-kept, held-with}
 use Rattle.fingerprint.proofs.Steps.{length-values}
@@ -37,6 +38,12 @@ module _ (mix d : ℕ) (h : List ℕ) (taken : ℕ) (f : Fingerprint) (H : Holds
       length-append (valuesOf mix block) h ∙ ap (λ (m : ℕ). m + length h) (length-values mix block 0 n) in
       let s = above taken (f .held + newBits d (f .wait) n) (keptAmong d (length (valuesOf mix block ++ h)))
       (held-with mix d h taken f H n ∙ ap (keptAmong d) (sym e)) in
+      rw (H .mix-type, s)
+
+  pub instant-paper : (i : Instant) → instantNumber d f i ≡ instantAnswer mix d h taken i
+  unfolding instantNumber instantAnswer keptBits
+  instant-paper i =
+      let s = above taken (f .held + newBits d (f .wait) 1) (keptAmong d (suc (length h))) (held-with mix d h taken f H 1 ∙ ap (keptAmong d) (omega arith)) in
       rw (H .mix-type, s)
 
   pub holds-paper : (n : ℕ) → holdsOf f n ≡ heldAnswer d h taken n

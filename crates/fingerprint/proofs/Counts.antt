@@ -14,7 +14,7 @@ use Rattle.sound.specs.Mix.{weights, instantBytes}
 use Rattle.sound.proofs.Whole.{by-order}
 use Rattle.fingerprint.specs.declared.Fingerprint.{Fingerprint}
 use Rattle.fingerprint.specs.History.{keptAmong}
-use Rattle.fingerprint.specs.State.{after, valuesAt, instants, valuesOf, heardOf, wholeInstants, newBits, soundNumber}
+use Rattle.fingerprint.specs.State.{after, valuesAt, instants, valuesOf, heardOf, wholeInstants, newBits, storeNumber, soundNumber}
 
 -- n whole bytes among h bits
 pub whole-bytes : (n h : ℕ) → leb n (h / 8) ≡ leb (8 * n) h
@@ -135,13 +135,25 @@ pub instants-fit : (mix len : ℕ) → instants mix len * instantBytes mix ≤ l
 unfolding instants
 instants-fit mix len = div-mul-le-self len (instantBytes mix)
 
+-- samples that there is room for
+pub store-fits : (held d wait n : ℕ) → storeNumber held d wait n ≡ 0 → held + newBits d wait n ≤ 256
+store-fits held d wait n e = below (ltb 256 (held + newBits d wait n)) refl e
+  where
+    below : (b : Bool) → ltb 256 (held + newBits d wait n) ≡ b → _≡_ {A = ℕ} (cond b 9 0) 0 → held + newBits d wait n ≤ 256
+    below true t z = absurd (let no : ⊥ = omega arith in no)
+    below false t z = ltb-false 256 (held + newBits d wait n) t
+
 -- the numbers of a block, in their order
 module _ (d : ℕ) (f : Fingerprint) (len : ℕ) where
   pub number-8 : wholeInstants (f .mix) len ≡ false → 8 ≡ soundNumber d f len
   unfolding soundNumber
   number-8 e = rw e
 
-  pub number-9 : wholeInstants (f .mix) len ≡ true → 256 < f .held + newBits d (f .wait) (instants (f .mix) len) → 9 ≡ soundNumber d f len
+  pub number-whole : wholeInstants (f .mix) len ≡ true → storeNumber (f .held) d (f .wait) (instants (f .mix) len) ≡ soundNumber d f len
+  unfolding soundNumber
+  number-whole e = rw e
+
+  number-9 : wholeInstants (f .mix) len ≡ true → 256 < f .held + newBits d (f .wait) (instants (f .mix) len) → 9 ≡ soundNumber d f len
   unfolding soundNumber
   number-9 e h = rw (e, lt-ltb 256 (f .held + newBits d (f .wait) (instants (f .mix) len)) h)
 
@@ -152,14 +164,9 @@ module _ (d : ℕ) (f : Fingerprint) (len : ℕ) where
   -- what an accepted block fulfils
   pub number-fits : soundNumber d f len ≡ 0 → f .held + newBits d (f .wait) (instants (f .mix) len) ≤ 256
   unfolding soundNumber
-  number-fits e = below (ltb 256 n) refl (past (wholeInstants (f .mix) len) 8 (cond (ltb 256 n) 9 0) e (omega arith) .1)
-    where
-      n : ℕ
-      n = f .held + newBits d (f .wait) (instants (f .mix) len)
-
-      below : (b : Bool) → ltb 256 n ≡ b → _≡_ {A = ℕ} (cond b 9 0) 0 → n ≤ 256
-      below true t z = absurd (let no : ⊥ = omega arith in no)
-      below false t z = ltb-false 256 n t
+  number-fits e =
+      let n : ℕ = instants (f .mix) len in
+      store-fits (f .held) d (f .wait) n (past (wholeInstants (f .mix) len) 8 (storeNumber (f .held) d (f .wait) n) e (omega arith) .1)
 
   -- 256 bits held: a block with a kept sample gives 9, one without is accepted
   module _ (full : f .held ≡ 256) (whole : wholeInstants (f .mix) len ≡ true) where

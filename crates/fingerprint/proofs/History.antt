@@ -12,11 +12,13 @@ use lib.ListN.{length, getD, drop, length-append}
 use borrow.Author.Tests.{eq-eqb, ne-eqb, lt-ltb, eqb-true}
 use Rattle.sound.specs.Filter.{filterNext, filtered, envelopeAfter, meanAfter, bitOf}
 use Rattle.sound.proofs.Whole.{by-order}
+use Rattle.floats.specs.declared.Instant.{Instant}
+use Rattle.floats.specs.Instants.{refusedBy, floatValue}
 use Rattle.fingerprint.specs.declared.Fingerprint.{Fingerprint}
-use Rattle.fingerprint.specs.State.{freshOf, filteredOf, withBit, holding, pushedOf, withWait, keptOf, stepOf, after, instants, valuesOf, heardOf, newBits, soundNumber, canTake, without, takeOf}
+use Rattle.fingerprint.specs.State.{freshOf, filteredOf, withBit, holding, pushedOf, withWait, keptOf, stepOf, after, instants, valuesOf, heardOf, newBits, storeNumber, soundNumber, instantNumber, canTake, without, takeOf}
 use Rattle.fingerprint.specs.History.{upTo, bitAt, keptAmong, keptBits, bitIn, some, Holds}
 use Rattle.fingerprint.proofs.Bits.{kept-bit, other-bit, length-bit, small-bit, shifted-bit, length-shifted, small-shifted, small-zeros, zero-bits, same-bytes}
-use Rattle.fingerprint.proofs.Counts.{bits-none, bits-some, bits-more, kept-count, number-fits}
+use Rattle.fingerprint.proofs.Counts.{bits-none, bits-some, bits-more, kept-count, store-fits, number-fits}
 use Rattle.fingerprint.proofs.Steps.{length-values}
 use Rattle.fingerprint.proofs.Taking.{can-take-room}
 
@@ -229,6 +231,15 @@ module _ (mix d : ℕ) (h : List ℕ) (taken : ℕ) (f : Fingerprint) (H : Holds
       let room = number-fits d f (length block) (eqb-true (soundNumber d f (length block)) 0 e) in
       holds-heard mix d h taken f H block
       (subst (λ (m : ℕ). f .held + newBits d (f .wait) (instants m (length block)) ≤ 256) (H .mix-type) room)
+
+  -- an instant whose number is 0
+  pub holds-instant : (i : Instant) → instantNumber d f i ≡ 0 → Holds mix d (floatValue i ∷ h) taken (stepOf d f (floatValue i))
+  unfolding instantNumber after
+  holds-instant i e = holds-after mix d h taken f H (floatValue i ∷ []) (store-fits (f .held) d (f .wait) 1 (go (refusedBy (f .mix) i) e))
+    where
+      go : (t : Bool) → cond t 14 (storeNumber (f .held) d (f .wait) 1) ≡ 0 → storeNumber (f .held) d (f .wait) 1 ≡ 0
+      go true z = absurd (let no : ⊥ = omega arith in no)
+      go false z = z
 
   -- n bytes, taken where they are held
   pub holds-take : (n : ℕ) (b : Bool) → canTake f n ≡ b → Holds mix d h (cond b (taken + 8 * n) taken) (takeOf f n .fingerprint)

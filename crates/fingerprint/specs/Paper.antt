@@ -1,11 +1,13 @@
 -- Document 01's answers and demand 3, after the samples h, of whose bits taken have left: no store of bits, no wait, no filter that is kept.
 use Prim.Native.Nat.{ℕ, _+_, _-_, _*_, _<_}
 use mathlib.Core.Path.{_≡_}
-use mathlib.Core.List.{List, _++_}
+use mathlib.Core.List.{List, _∷_, _++_}
 use mathlib.Core.Bool.{Bool, cond, _&&_}
 use lib.Dec.{ltb, leb}
 use lib.ListN.{length, replicate}
 use Rattle.sound.specs.Exact.{exactEnvelope, exactMean, MoreAbove, AtLeastAbove}
+use Rattle.floats.specs.declared.Instant.{Instant}
+use Rattle.floats.specs.Instants.{refusedBy, floatValue}
 use Rattle.fingerprint.specs.State.{wholeInstants, valuesOf}
 use Rattle.fingerprint.specs.History.{upTo, keptBits, bytesFrom, bitIn}
 
@@ -13,6 +15,10 @@ use Rattle.fingerprint.specs.History.{upTo, keptBits, bytesFrom, bitIn}
 unfoldable pub soundAnswer : ℕ → ℕ → List ℕ → ℕ → List ℕ → ℕ
 soundAnswer mix d h taken block =
     cond (wholeInstants mix (length block)) (cond (ltb (256 + taken) (keptBits d (valuesOf mix block ++ h))) 9 0) 8
+
+-- "14 for an instant with a NaN, or whose kind differs from the fingerprint's mix type, after 7 and before 9"; its one sample is counted as a block's
+unfoldable pub instantAnswer : ℕ → ℕ → List ℕ → ℕ → Instant → ℕ
+instantAnswer mix d h taken i = cond (refusedBy mix i) 14 (cond (ltb (256 + taken) (keptBits d (floatValue i ∷ h))) 9 0)
 
 -- n whole bytes are held
 unfoldable pub heldAnswer : ℕ → List ℕ → ℕ → ℕ → Bool

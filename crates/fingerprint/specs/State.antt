@@ -7,6 +7,8 @@ use lib.ListN.{length, getD, set, take, drop, replicate}
 use lib.Bits.{bitOr}
 use Rattle.sound.specs.Mix.{instantBytes, instantValue}
 use Rattle.sound.specs.Filter.{envelopeNext, meanNext}
+use Rattle.floats.specs.declared.Instant.{Instant}
+use Rattle.floats.specs.Instants.{refusedBy}
 use Rattle.fingerprint.specs.declared.Fingerprint.{Fingerprint}
 use Rattle.fingerprint.specs.declared.Taken.{Taken}
 
@@ -82,12 +84,17 @@ newBits d wait (suc n) = cond (eqb wait 0) (suc (newBits d (d - 1) n)) (newBits 
 unfoldable pub wholeInstants : ℕ → ℕ → Bool
 wholeInstants mix len = eqb (len % instantBytes mix) 0
 
--- "8 length no multiple of one instant; 9 held plus new bits above 256", for a block of len bytes
+-- "9 held plus new bits above 256", for n samples, the first kept one after a wait
+abbrev pub storeNumber : ℕ → ℕ → ℕ → ℕ → ℕ
+storeNumber held d wait n = cond (ltb 256 (held + newBits d wait n)) 9 0
+
+-- "8 length no multiple of one instant; 9 ..", for a block of len bytes
 unfoldable pub soundNumber : ℕ → Fingerprint → ℕ → ℕ
-soundNumber d f len =
-    cond (wholeInstants (f .mix) len)
-    (cond (ltb 256 (f .held + newBits d (f .wait) (instants (f .mix) len))) 9 0)
-    8
+soundNumber d f len = cond (wholeInstants (f .mix) len) (storeNumber (f .held) d (f .wait) (instants (f .mix) len)) 8
+
+-- "14 for an instant with a NaN, or whose kind differs from the fingerprint's mix type, after 7 and before 9"
+unfoldable pub instantNumber : ℕ → Fingerprint → Instant → ℕ
+instantNumber d f i = cond (refusedBy (f .mix) i) 14 (storeNumber (f .held) d (f .wait) 1)
 
 -- n whole bytes are held
 unfoldable pub holdsOf : Fingerprint → ℕ → Bool

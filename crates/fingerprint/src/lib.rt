@@ -1,10 +1,13 @@
 // One audio fingerprint by value: what it has heard, the bits that it holds, and the taking of them (01, Audio; 000, 5.3.3 to 5.3.6).
 ghost use mathlib.Core.Path.{_≡_};
 ghost use Prim.Native.Nat.{_+_, _-_, _*_, _%_, _≤_, _<_};
+ghost use lib.Dec.{ltb};
 ghost use lib.ListN.{length};
 ghost use Rattle.sound.specs.Mix.{instantBytes};
-ghost use Rattle.fingerprint.specs.State.{freshOf, pushedOf, stepOf, heardOf, valuesAt, instants, wholeInstants, newBits, soundNumber, holdsOf, shifted, firstBytes, takeOf};
+ghost use Rattle.floats.specs.Instants.{floatValue};
+ghost use Rattle.fingerprint.specs.State.{freshOf, pushedOf, stepOf, heardOf, valuesAt, instants, wholeInstants, newBits, storeNumber, soundNumber, instantNumber, holdsOf, shifted, firstBytes, takeOf};
 ghost use Rattle.fingerprint.specs.Parts.{nextFilters, throughOf, withFiltersOf};
+use floats::Instant;
 
 // envelope and mean are E(i) and M(i) of the newest sample i; started says that there was one. wait samples pass before the next kept one.
 // held bits are not yet taken; bit k of them is bit k % 8 of byte k / 8.
@@ -104,6 +107,13 @@ fn pushed(f: Fingerprint, one: bool) -> Fingerprint
     next
 }
 
+// A kept sample's bit, from the filters that it has just entered.
+fn kept(f: Fingerprint, v: Filters) -> Fingerprint
+    ensures { λ r. ⌜ r ≡ pushedOf f (ltb (v .mean) (v .envelope)) ⌝ }
+{
+    pushed(f, v.mean < v.envelope)
+}
+
 // A fingerprint with its filters and its wait put back.
 fn with_filters(f: Fingerprint, v: Filters, wait: u8) -> Fingerprint
     ensures { λ r. ⌜ r ≡ withFiltersOf f v wait ⌝ }
@@ -137,7 +147,7 @@ pub fn step(f: Fingerprint, a: u16, d: u8) -> Fingerprint
     );
     let wait = f.wait;
     if wait == 0 {
-        with_filters(pushed(f, v.mean < v.envelope), v, less_one(d))
+        with_filters(kept(f, v), v, less_one(d))
     } else {
         with_filters(f, v, wait - 1)
     }
@@ -219,7 +229,7 @@ pub fn heard(f: Fingerprint, d: u8, block: &[u8]) -> Fingerprint
     while i < n {
         if wait == 0 {
             v = next_filters(v, sound::instant_value(mix, block, at));
-            rest = pushed(rest, v.mean < v.envelope);
+            rest = kept(rest, v);
             wait = pause;
             at = at + size;
             i = i + 1;
@@ -248,6 +258,19 @@ fn new_bits(d: u8, wait: u8, n: usize) -> usize
     (n - pass - 1) / (d as usize) + 1
 }
 
+// 9 where the bits held and those of the next n samples are above 256.
+fn store_number(held: usize, d: u8, wait: u8, n: usize) -> u8
+    ensures { λ r. ⌜ r ≡ storeNumber held d wait n ⌝ }
+{
+    if 256 < held {
+        return 9;
+    }
+    if 256 - held < new_bits(d, wait, n) {
+        return 9;
+    }
+    0
+}
+
 // Whether len bytes are whole instants.
 fn whole_instants(mix: u8, len: usize) -> bool
     ensures { λ r. ⌜ r ≡ wholeInstants mix len ⌝ }
@@ -267,15 +290,27 @@ pub fn sound_number(f: Fingerprint, d: u8, len: usize) -> u8
     if !whole_instants(mix, len) {
         return 8;
     }
-    let held = f.held;
-    if 256 < held {
-        return 9;
+    store_number(f.held, d, f.wait, instants_in(mix, len))
+}
+
+// The number that refuses an instant in floating point, or 0 (02, A3; its 1 and 7 are the session's).
+pub fn instant_number(f: Fingerprint, d: u8, i: Instant) -> u8
+    ensures { λ r. ⌜ r ≡ instantNumber d f i ⌝ }
+{
+    if floats::has_nan(i) {
+        return 14;
     }
-    let new = new_bits(d, f.wait, instants_in(mix, len));
-    if 256 < held + new {
-        return 9;
+    if floats::kind(i) != f.mix {
+        return 14;
     }
-    0
+    store_number(f.held, d, f.wait, 1)
+}
+
+// An instant in floating point: its one mixed sample.
+pub fn heard_instant(f: Fingerprint, d: u8, i: Instant) -> Fingerprint
+    ensures { λ r. ⌜ r ≡ stepOf d f (floatValue i) ⌝ }
+{
+    step(f, floats::value(i), d)
 }
 
 // Whether n whole bytes are held.

@@ -1,15 +1,15 @@
 -- The outcome of each call, case by case.
 use Prim.Native.Nat.{ℕ, _≤_, _<_}
-use mathlib.Core.List.{List, []}
-use mathlib.Core.Path.{_≡_, refl, ap, sym, _∙_}
-use mathlib.Core.Bool.{Bool, true, false, cond, _&&_, _||_}
+use mathlib.Core.List.{List}
+use mathlib.Core.Path.{_≡_, refl, sym, _∙_}
+use mathlib.Core.Bool.{Bool, true, false, cond, _||_}
 use native.Mathlib.Omega.{arith}
-use borrow.Author.Tests.{leb-true, le-leb, lt-leb, eq-eqb, ne-eqb}
+use borrow.Author.Tests.{leb-true, leb-false, lt-leb, eq-eqb, ne-eqb}
 use lib.Dec.{leb, eqb}
-use lib.ListN.{length, getD}
+use lib.ListN.{length}
 use Rattle.laws.proofs.Tests.{both}
 use Rattle.laws.specs.declared.Done.{Done}
-use Rattle.rates.specs.Rates.{pairsWith, intervalOf}
+use Rattle.rates.specs.Rates.{pairsWith}
 use Rattle.picture.specs.declared.Told.the-variants.{Open}
 use Rattle.picture.specs.declared.Picture.{Picture}
 use Rattle.picture.specs.declared.Scanned as scanned
@@ -17,13 +17,11 @@ use Rattle.picture.specs.Pictures.{restarted, isReady}
 use Rattle.picture.specs.Pictures as picture
 use Rattle.picture.specs.Fields.{toldValues, toldEnded, saysOf}
 use Rattle.fingerprint.specs.declared.Fingerprint.{Fingerprint}
-use Rattle.fingerprint.specs.State.{heardOf, soundNumber}
-use Rattle.container.specs.declared.Contents.{Contents}
 use Rattle.container.specs.Writing.{writeDone, writeOut}
 use Rattle.session.specs.declared.Settings.{Settings}
 use Rattle.session.specs.declared.Session.{Session}
-use Rattle.session.specs.Fingerprints.{allListed, each, cleared}
-use Rattle.session.specs.Session.{isSet, setupNumber, setUpWith, emptySession, setupOf, withPicture, lineOf, lineSays, noFingerprint, withFingerprint, soundedNumber, soundOf, videoRestarted, audioAnew, audioRestarted}
+use Rattle.session.specs.Fingerprints.{allListed, each}
+use Rattle.session.specs.Session.{isSet, setupNumber, setUpWith, emptySession, setupOf, withPicture, lineOf, lineSays, withFingerprint, reached, heardWith, videoRestarted, audioAnew, audioRestarted}
 use Rattle.session.specs.Packing.{contentsOf, sessionAfter, readyNumber, packNumber, refusedWith, packOf, packOut}
 
 -- settings of an accepted setup have at most 32 fingerprints
@@ -73,30 +71,41 @@ module _ (s : Session) where
   unfolding lineOf lineSays
   line-set e n b r p = (rw (e, ← p .0), rw (e, ← p .1))
 
-  -- ---- Sound
+  -- ---- Sound, in a block or in floating point: what fingerprint k itself answers, and what it becomes
 
-  pub sound-1 : set ≡ false → (k : ℕ) (b : List ℕ) → record { number = 1; session = s } ≡ soundOf s k b
-  unfolding soundOf soundedNumber
-  sound-1 e k b = rw e
+  module _ (k r : ℕ) (e : r ≡ reached (s .programme .settings) k 0) where
+    pub unreached : (r ≡ 0 → ⊥) → (number : ℕ) (f : Fingerprint) → record { number = r; session = s } ≡ heardWith s k (reached (s .programme .settings) k number) f
+    unreached n number f = go set (leb (s .programme .settings .count) k) e
+      where
+        go : (a b : Bool) → r ≡ cond a (cond b 7 0) 1
+            → record { number = r; session = s } ≡ heardWith s k (cond a (cond b 7 number) 1) f
+        go true true z = rw z
+        go true false z = absurd (n z)
+        go false b z = rw z
 
-  module _ (e : set ≡ true) (k : ℕ) (b : List ℕ) where
-    pub sound-7 : s .programme .settings .count ≤ k → record { number = 7; session = s } ≡ soundOf s k b
-    unfolding soundOf soundedNumber
-    sound-7 h = rw (e, le-leb (s .programme .settings .count) k h)
+    module _ (z : r ≡ 0) where
+      at-own : (set ≡ true) × (k < s .programme .settings .count)
+      at-own = go set (leb (s .programme .settings .count) k) refl refl (sym e ∙ z)
+        where
+          go : (a b : Bool) → set ≡ a → leb (s .programme .settings .count) k ≡ b → _≡_ {A = ℕ} (cond a (cond b 7 0) 1) 0
+              → (set ≡ true) × (k < s .programme .settings .count)
+          go true false p q h = (p, leb-false (s .programme .settings .count) k q)
+          go true true p q h = absurd (let no : ⊥ = omega arith in no)
+          go false b p q h = absurd (let no : ⊥ = omega arith in no)
 
-    module _ (h : k < s .programme .settings .count) (d : ℕ) (p : d ≡ intervalOf (s .programme .settings .rate)) where
-      judged : soundNumber d (getD (s .fingerprints) k noFingerprint) (length b) ≡ soundedNumber s k (length b)
-      unfolding soundedNumber
-      judged = rw (e, lt-leb (s .programme .settings .count) k h, p)
+      pub within-32 : k < 32
+      within-32 = omega (arith, at-own .1, set-count (s .programme .settings) (at-own .0))
 
-      pub sound-8-9 : (n : ℕ) → n ≡ soundNumber d (getD (s .fingerprints) k noFingerprint) (length b) → (n ≡ 0 → ⊥) → record { number = n; session = s } ≡ soundOf s k b
-      unfolding soundOf
-      sound-8-9 n q f = let z : n ≡ soundedNumber s k (length b) = q ∙ judged in rw (← z, ne-eqb n 0 f)
+      own : (number : ℕ) → reached (s .programme .settings) k number ≡ number
+      own number = rw (at-own .0, lt-leb (s .programme .settings .count) k (at-own .1))
 
-      pub sound-0 : soundNumber d (getD (s .fingerprints) k noFingerprint) (length b) ≡ 0 → (f : Fingerprint) → f ≡ heardOf d (getD (s .fingerprints) k noFingerprint) b
-          → record { number = 0; session = withFingerprint s k f } ≡ soundOf s k b
-      unfolding soundOf
-      sound-0 q f r = rw (← judged, q, ← p, ← r)
+      module _ (number : ℕ) (f : Fingerprint) where
+        pub refused-own : (n : ℕ) → n ≡ number → (n ≡ 0 → ⊥) → record { number = n; session = s } ≡ heardWith s k (reached (s .programme .settings) k number) f
+        refused-own n p q = rw (own number, ← p, ne-eqb n 0 q)
+
+        pub heard-own : (n : ℕ) → n ≡ number → n ≡ 0 → (g : Fingerprint) → g ≡ f
+            → record { number = 0; session = withFingerprint s k g } ≡ heardWith s k (reached (s .programme .settings) k number) f
+        heard-own n p q g h = rw (own number, ← p, q, ← h)
 
   -- ---- restarts
 

@@ -4,6 +4,7 @@ use Rattle.laws.proofs.Once.{OneResult, OneOutcome, one-value, one-pair}
 use Rattle.session.proofs.setup.Reads as setup-reads
 use Rattle.session.proofs.line.Reads as line-reads
 use Rattle.session.proofs.sound.Reads as sound-reads
+use Rattle.session.proofs.instant.Reads as instant-reads
 use Rattle.session.proofs.pack.Reads as pack-reads
 use Rattle.session.proofs.video_restart.Reads as video-restart-reads
 use Rattle.session.proofs.audio_restart.Reads as audio-restart-reads
@@ -16,6 +17,9 @@ line-unique κs a r r′ s s′ p q = one-value (p .0) (q .0)
 
 pub sound-unique : OneResult sound-reads.Post
 sound-unique κs a r r′ s s′ p q = one-value p q
+
+pub instant-unique : OneResult instant-reads.Post
+instant-unique κs a r r′ s s′ p q = one-value p q
 
 pub pack-unique : OneOutcome pack-reads.Post (λ κs s. now (s .1 .1 .0))
 pack-unique κs a r r′ s s′ p q = one-pair p q

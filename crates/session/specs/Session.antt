@@ -2,7 +2,7 @@
 use Prim.Native.Nat.{ℕ}
 use mathlib.Core.List.{List, []}
 use mathlib.Core.Bool.{Bool, false, cond, _&&_}
-use lib.Dec.{leb, ltb, eqb}
+use lib.Dec.{leb, eqb}
 use lib.ListN.{length, getD, set}
 use Rattle.laws.specs.Calls.{unless}
 use Rattle.rates.specs.Rates.{pairsWith, intervalOf}
@@ -11,10 +11,11 @@ use Rattle.picture.specs.declared.Told.the-variants.{Open}
 use Rattle.picture.specs.Pictures.{freshPicture, restarted}
 use Rattle.picture.specs.Fields.{Says}
 use Rattle.picture.specs.Pictures as picture
+use Rattle.floats.specs.declared.Instant.{Instant}
+use Rattle.floats.specs.Instants.{floatValue}
 use Rattle.fingerprint.specs.declared.Fingerprint.{Fingerprint}
-use Rattle.fingerprint.specs.State.{heardOf, soundNumber}
+use Rattle.fingerprint.specs.State.{stepOf, heardOf, soundNumber, instantNumber}
 use Rattle.session.specs.declared.Settings.{Settings}
-use Rattle.session.specs.declared.Programme.{Programme}
 use Rattle.session.specs.declared.Session.{Session}
 use Rattle.session.specs.declared.Begun.{Begun}
 use Rattle.session.specs.declared.Lined.{Lined}
@@ -101,18 +102,34 @@ noFingerprint = record { mix = 0; envelope = 0; mean = 0; wait = 0; started = fa
 abbrev pub withFingerprint : Session → ℕ → Fingerprint → Session
 withFingerprint s k f = record { programme = s .programme; fingerprints = set (s .fingerprints) k f }
 
+-- "return 1 first"; "7 no such fingerprint"; then the number that fingerprint k itself has
+abbrev pub reached : Settings → ℕ → ℕ → ℕ
+reached s k number = unless (isSet s) 1 (cond (leb (s .count) k) 7 number)
+
+-- fingerprint k becomes f, unless the sound for it is refused
+abbrev pub heardWith : Session → ℕ → ℕ → Fingerprint → Sounded
+heardWith s k number f = cond (eqb number 0) (record { number = 0; session = withFingerprint s k f }) (record { number = number; session = s })
+
 -- "7 no such fingerprint; 8 length no multiple of one instant; 9 held plus new bits above 256"
 unfoldable pub soundedNumber : Session → ℕ → ℕ → ℕ
 soundedNumber s k len =
-    unless (isSet (s .programme .settings)) 1
-    (cond (leb (s .programme .settings .count) k) 7
-    (soundNumber (intervalOf (s .programme .settings .rate)) (getD (s .fingerprints) k noFingerprint) len))
+    reached (s .programme .settings) k (soundNumber (intervalOf (s .programme .settings .rate)) (getD (s .fingerprints) k noFingerprint) len)
 
 unfoldable pub soundOf : Session → ℕ → List ℕ → Sounded
 soundOf s k block =
-    cond (eqb (soundedNumber s k (length block)) 0)
-    (record { number = 0; session = withFingerprint s k (heardOf (intervalOf (s .programme .settings .rate)) (getD (s .fingerprints) k noFingerprint) block) })
-    (record { number = soundedNumber s k (length block); session = s })
+    heardWith s k (soundedNumber s k (length block))
+    (heardOf (intervalOf (s .programme .settings .rate)) (getD (s .fingerprints) k noFingerprint) block)
+
+-- ---- An instant in floating point (02, A3): "14 .., after 7 and before 9"
+
+unfoldable pub instantedNumber : Session → ℕ → Instant → ℕ
+instantedNumber s k i =
+    reached (s .programme .settings) k (instantNumber (intervalOf (s .programme .settings .rate)) (getD (s .fingerprints) k noFingerprint) i)
+
+unfoldable pub instantOf : Session → ℕ → Instant → Sounded
+instantOf s k i =
+    heardWith s k (instantedNumber s k i)
+    (stepOf (intervalOf (s .programme .settings .rate)) (getD (s .fingerprints) k noFingerprint) (floatValue i))
 
 -- ---- Restarts: "never refused"; on an empty session they "change nothing"
 

@@ -1,11 +1,13 @@
-// The card's software as one value and six calls: Setup, Line, Sound, Pack and the two restarts (01, "What the card's software does", "What a caller is told").
+// The card's software as one value and seven calls: Setup, Line, Sound, an instant in floating point, Pack and the two restarts (01, "What the card's software does",
+// "What a caller is told"; 02, A3).
 ghost use mathlib.Core.Path.{_≡_};
 ghost use Prim.Native.Nat.{_≤_};
 ghost use lib.ListN.{length};
 ghost use Rattle.picture.specs.Fields.{saysOf};
-ghost use Rattle.session.specs.Session.{isSet, setupNumber, setUpWith, setupOf, lineOf, lineSays, soundOf, videoRestarted, audioRestarted};
+ghost use Rattle.session.specs.Session.{isSet, setupNumber, setUpWith, setupOf, lineOf, lineSays, reached, soundOf, instantOf, videoRestarted, audioRestarted};
 ghost use Rattle.session.specs.Packing.{packNumber, packOf, packOut};
 use fingerprint::Fingerprint;
+use floats::Instant;
 use picture::Picture;
 use picture::Told;
 
@@ -160,21 +162,29 @@ pub fn line(s: Session, number: usize, line: &[u8]) -> Lined
     }
 }
 
+// What refuses all sound for fingerprint k: 1 for an empty session, 7.
+fn reach_number(s: Settings, k: usize) -> u8
+    ensures { λ r. ⌜ r ≡ reached s k 0 ⌝ }
+{
+    if !is_set(s) {
+        return 1;
+    }
+    if s.count as usize <= k {
+        return 7;
+    }
+    0
+}
+
 // Sound: 1 for an empty session, 7, then 8 and 9.
 pub fn sound(s: Session, k: usize, block: &[u8]) -> Sounded
     ensures { λ r. ⌜ r ≡ soundOf s k (now (block .entry)) ⌝ }
 {
     let p = s.programme;
     let settings = p.settings;
-    if !is_set(settings) {
+    let reach = reach_number(settings, k);
+    if reach != 0 {
         return Sounded {
-            number: 1,
-            session: s,
-        };
-    }
-    if settings.count as usize <= k {
-        return Sounded {
-            number: 7,
+            number: reach,
             session: s,
         };
     }
@@ -185,6 +195,34 @@ pub fn sound(s: Session, k: usize, block: &[u8]) -> Sounded
         return Sounded { number, session: s };
     }
     let heard = fingerprint::heard(f, d, block);
+    let mut next = s;
+    next.fingerprints[k] = heard;
+    Sounded {
+        number: 0,
+        session: next,
+    }
+}
+
+// An instant in floating point: 1 for an empty session, 7, then 14 and 9.
+pub fn instant(s: Session, k: usize, i: Instant) -> Sounded
+    ensures { λ r. ⌜ r ≡ instantOf s k i ⌝ }
+{
+    let p = s.programme;
+    let settings = p.settings;
+    let reach = reach_number(settings, k);
+    if reach != 0 {
+        return Sounded {
+            number: reach,
+            session: s,
+        };
+    }
+    let d = rates::interval(settings.rate);
+    let f = s.fingerprints[k];
+    let number = fingerprint::instant_number(f, d, i);
+    if number != 0 {
+        return Sounded { number, session: s };
+    }
+    let heard = fingerprint::heard_instant(f, d, i);
     let mut next = s;
     next.fingerprints[k] = heard;
     Sounded {

@@ -23,10 +23,16 @@ use Rattle.fingerprint.proofs.mix_type.Reads as fingerprint-mix-type
 use Rattle.fingerprint.proofs.step.Reads as fingerprint-step
 use Rattle.fingerprint.proofs.heard.Reads as fingerprint-heard
 use Rattle.fingerprint.proofs.sound_number.Reads as fingerprint-sound-number
+use Rattle.fingerprint.proofs.instant_number.Reads as fingerprint-instant-number
+use Rattle.fingerprint.proofs.heard_instant.Reads as fingerprint-heard-instant
 use Rattle.fingerprint.proofs.holds.Reads as fingerprint-holds
 use Rattle.fingerprint.proofs.take.Reads as fingerprint-take
 use Rattle.flat.proofs.flatten.Reads as flat-flatten
 use Rattle.flat.proofs.unflatten.Reads as flat-unflatten
+use Rattle.floats.proofs.sample_of.Reads as floats-sample-of
+use Rattle.floats.proofs.kind.Reads as floats-kind
+use Rattle.floats.proofs.has_nan.Reads as floats-has-nan
+use Rattle.floats.proofs.value.Reads as floats-value
 use Rattle.host.proofs.lipsync_read_container.Reads as host-lipsync-read-container
 use Rattle.host.proofs.lipsync_write_packet.Reads as host-lipsync-write-packet
 use Rattle.host.proofs.lipsync_read_packet.Reads as host-lipsync-read-packet
@@ -56,6 +62,7 @@ use Rattle.sampling.proofs.sample_line.Reads as sampling-sample-line
 use Rattle.session.proofs.setup.Reads as session-setup
 use Rattle.session.proofs.line.Reads as session-line
 use Rattle.session.proofs.sound.Reads as session-sound
+use Rattle.session.proofs.instant.Reads as session-instant
 use Rattle.session.proofs.video_restart.Reads as session-video-restart
 use Rattle.session.proofs.audio_restart.Reads as session-audio-restart
 use Rattle.session.proofs.pack.Reads as session-pack
@@ -78,6 +85,7 @@ use Rattle.container.proofs.Unique as container-theorems
 use Rattle.feed.proofs.Unique as feed-theorems
 use Rattle.fingerprint.proofs.Unique as fingerprint-theorems
 use Rattle.flat.proofs.Unique as flat-theorems
+use Rattle.floats.proofs.Unique as floats-theorems
 use Rattle.host.proofs.Unique as host-theorems
 use Rattle.laws.proofs.Unique as laws-theorems
 use Rattle.packet.proofs.Unique as packet-theorems
@@ -147,6 +155,12 @@ fingerprint-heard-unique = fingerprint-theorems.heard-unique
 pub fingerprint-sound-number-unique : OneResult fingerprint-sound-number.Post
 fingerprint-sound-number-unique = fingerprint-theorems.sound-number-unique
 
+pub fingerprint-instant-number-unique : OneResult fingerprint-instant-number.Post
+fingerprint-instant-number-unique = fingerprint-theorems.instant-number-unique
+
+pub fingerprint-heard-instant-unique : OneResult fingerprint-heard-instant.Post
+fingerprint-heard-instant-unique = fingerprint-theorems.heard-instant-unique
+
 pub fingerprint-holds-unique : OneResult fingerprint-holds.Post
 fingerprint-holds-unique = fingerprint-theorems.holds-unique
 
@@ -158,6 +172,18 @@ flat-flatten-unique = flat-theorems.flatten-unique
 
 pub flat-unflatten-unique : OneResult flat-unflatten.Post
 flat-unflatten-unique = flat-theorems.unflatten-unique
+
+pub floats-sample-of-unique : OneResult floats-sample-of.Post
+floats-sample-of-unique = floats-theorems.sample-of-unique
+
+pub floats-kind-unique : OneResult floats-kind.Post
+floats-kind-unique = floats-theorems.kind-unique
+
+pub floats-has-nan-unique : OneResult floats-has-nan.Post
+floats-has-nan-unique = floats-theorems.has-nan-unique
+
+pub floats-value-unique : OneResult floats-value.Post
+floats-value-unique = floats-theorems.value-unique
 
 pub host-lipsync-read-container-unique : OneOutcome host-lipsync-read-container.Post {X = List ℕ × ℕ} (λ κs s. (now (s .1 .0), now (s .1 .1 .0)))
 host-lipsync-read-container-unique = host-theorems.lipsync-read-container-unique
@@ -245,6 +271,9 @@ session-line-unique = session-theorems.line-unique
 
 pub session-sound-unique : OneResult session-sound.Post
 session-sound-unique = session-theorems.sound-unique
+
+pub session-instant-unique : OneResult session-instant.Post
+session-instant-unique = session-theorems.instant-unique
 
 pub session-video-restart-unique : OneResult session-video-restart.Post
 session-video-restart-unique = session-theorems.video-restart-unique

@@ -57,14 +57,14 @@ instant-value-requires c κs = search needs
 next-filters-requires : tie.Need-next-filters-requires Inv-loop μ-loop
 next-filters-requires c κs = search needs
 
-pushed-requires : tie.Need-pushed-requires Inv-loop μ-loop
-pushed-requires c κs = search needs
+kept-requires : tie.Need-kept-requires Inv-loop μ-loop
+kept-requires c κs = search needs
 
 add-at : tie.Need-add-at Inv-loop μ-loop
-add-at c = omega (arith, room (c .before .before .before .before .before .before) 1 (omega arith))
+add-at c = omega (arith, room (c .before .before .before .before .before) 1 (omega arith))
 
 add-i : tie.Need-add-i Inv-loop μ-loop
-add-i c = omega (arith, few (c .before .before .before .before .before .before))
+add-i c = omega (arith, few (c .before .before .before .before .before))
 
 loop-less : tie.Need-loop-less Inv-loop μ-loop
 loop-less c = omega arith
@@ -72,19 +72,19 @@ loop-less c = omega arith
 loop-again : tie.Need-loop-again Inv-loop μ-loop
 unfolding valuesAt
 loop-again c =
-    let l = c .before .before .before .before .before .before .loop in
-    let size = c .before .before .before .before .before .before .before .before .before .instant-bytes in
-    let b = c .before .before .before .before .before .before .before .before .before .before .before .args in
-    let a = c .before .before .before .instant-value in
-    let v = c .before .before .next-filters in
+    let l = c .before .before .before .before .before .loop in
+    let size = c .before .before .before .before .before .before .before .before .instant-bytes in
+    let b = c .before .before .before .before .before .before .before .before .before .before .args in
+    let a = c .before .before .instant-value in
+    let v = c .before .next-filters in
     let h = valuesAt (b .f .mix) (b .block .now) 0 (l .i) in
     let e : a .result ≡ instantValue (b .f .mix) (b .block .now) (0 + l .i * instantBytes (b .f .mix)) =
     a .ensures ∙ ap (instantValue (b .f .mix) (b .block .now)) (l .inv .1 ∙ (ap (_*_ (l .i)) (size .ensures) ∙ omega arith)) in (
       omega arith,
       omega arith,
       rw add-one
-          (kept-on (b .d) (l .rest) (l .v) (l .wait) (a .result) (b .f) h (v .result) (c .pushed .result) _ (l .inv .2)
-          (c .before .before .before .before .if1 .taken) (v .ensures) (c .pushed .ensures) (c .before .before .before .before .before .before .before .less-one .ensures)
+          (kept-on (b .d) (l .rest) (l .v) (l .wait) (a .result) (b .f) h (v .result) (c .kept .result) _ (l .inv .2)
+          (c .before .before .before .if1 .taken) (v .ensures) (c .kept .ensures) (c .before .before .before .before .before .before .less-one .ensures)
           ∙ ap (λ (x : ℕ). after (b .d) (b .f) (x ∷ h)) e),
     )
 
@@ -159,7 +159,7 @@ heard-spec =
     loop-holds
     instant-value-requires
     next-filters-requires
-    pushed-requires
+    kept-requires
     add-at
     add-i
     loop-less

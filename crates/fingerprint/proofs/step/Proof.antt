@@ -14,8 +14,8 @@ use Rattle.fingerprint.proofs.step.Tie as tie
 next-filters-requires : tie.Need-next-filters-requires
 next-filters-requires c κs = search needs
 
-pushed-requires : tie.Need-pushed-requires
-pushed-requires c κs = search needs
+kept-requires : tie.Need-kept-requires
+kept-requires c κs = search needs
 
 less-one-requires : tie.Need-less-one-requires
 less-one-requires c κs = search needs
@@ -32,13 +32,13 @@ with-filters-requires-2 c κs = search needs
 returns : tie.Need-returns
 unfolding withFiltersOf filtersOf
 returns c =
-    let a = c .before .before .before .before .before .before .args in
-    let p = c .before .before .pushed in
-    let v = c .before .before .before .before .before .next-filters in
+    let a = c .before .before .before .before .before .args in
+    let p = c .before .before .kept in
+    let v = c .before .before .before .before .next-filters in
     c .with-filters .ensures
     ∙ (ap₂ (λ (g : Fingerprint) (w : ℕ). withFiltersOf g (v .result) w) (p .ensures) (c .before .less-one .ensures)
     ∙ (ap (λ (u : Filters). withFiltersOf (pushedOf (a .f) (ltb (u .mean) (u .envelope))) u (a .d - 1)) (v .ensures)
-    ∙ step-kept (a .d) (a .f) (filtersOf (a .f)) (a .f .wait) (a .a) (c .before .before .before .before .if1 .taken)))
+    ∙ step-kept (a .d) (a .f) (filtersOf (a .f)) (a .f .wait) (a .a) (c .before .before .before .if1 .taken)))
 
 returns-2 : tie.Need-returns-2
 unfolding withFiltersOf filtersOf
@@ -54,7 +54,7 @@ step-spec =
     tie.close
     (tie.spec
     next-filters-requires
-    pushed-requires
+    kept-requires
     less-one-requires
     with-filters-requires
     sub-with-filters

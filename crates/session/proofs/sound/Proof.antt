@@ -1,79 +1,80 @@
 -- `session::sound` meets its contract.
-use Prim.Native.Nat.{_≤_, _<_}
-use mathlib.Core.Path.{_≡_, sym, _∙_}
-use mathlib.Core.Bool.{true}
+use Prim.Native.Nat.{ℕ, _<_}
+use mathlib.Core.Path.{ap, _∙_}
 use native.Mathlib.Omega.{arith}
-use borrow.Author.Tests.{not-true, not-false}
-use Rattle.session.specs.Session.{isSet}
-use Rattle.session.proofs.Calls.{set-count, sound-1, sound-7, sound-8-9, sound-0}
+use lib.ListN.{length, getD}
+use Rattle.fingerprint.specs.State.{heardOf, soundNumber}
+use Rattle.session.specs.Session.{noFingerprint, soundedNumber, soundOf}
+use Rattle.session.proofs.Calls.{unreached, within-32, refused-own, heard-own}
 use borrow.Author.Needs.{needs}
 use Rattle.session.proofs.sound.Statement.{statement}
 use Rattle.session.proofs.sound.Tie as tie
 
-right : (c : tie.Else1) → isSet (c .before .before .before .before .before .args .t1 .programme .settings) ≡ true
-right c = sym (c .before .is-set .ensures) ∙ not-false _ (c .if1 .left)
+in-table : (c : tie.Else1) → c .before .before .before .before .before .args .k < 32
+in-table c = let a = c .before .before .before .before .before .args in let r = c .before .reach-number in within-32 (a .t1) (a .k) (r .result) (r .ensures) (c .if1 .left)
 
-within-32 : (c : tie.Else2) → c .before .before .before .before .before .before .before .args .k < 32
-within-32 c =
-    omega (arith, set-count (c .before .before .before .before .before .before .before .args .t1 .programme .settings) (right (c .before .before)), c .if2 .left)
-
-is-set-requires : tie.Need-is-set-requires
-is-set-requires c κs = search needs
+reach-number-requires : tie.Need-reach-number-requires
+reach-number-requires c κs = search needs
 
 returns : tie.Need-returns
-returns c = let a = c .before .before .before .before .before .args in sound-1 (a .t1) (sym (c .before .is-set .ensures) ∙ not-true _ (c .if1 .taken)) (a .k) (a .block .now)
-
-cast-if2 : tie.Need-cast-if2
-cast-if2 c = search needs
-
-returns-2 : tie.Need-returns-2
-returns-2 c = let a = c .before .before .before .before .before .before .before .args in sound-7 (a .t1) (right (c .before .before)) (a .k) (a .block .now) (c .if2 .taken)
+unfolding soundOf soundedNumber
+returns c = let a = c .before .before .before .before .before .args in let r = c .before .reach-number in unreached (a .t1) (a .k) (r .result) (r .ensures) (c .if1 .taken) _ _
 
 interval-requires : tie.Need-interval-requires
 interval-requires c κs = search needs
 
 mul-f : tie.Need-mul-f
-mul-f c = search needs
+mul-f c = omega (arith, in-table (c .before))
 
 element-copy-out-f : tie.Need-element-copy-out-f
-element-copy-out-f c = omega (arith, within-32 (c .before))
+element-copy-out-f c = omega (arith, in-table (c .before))
 
 sound-number-requires : tie.Need-sound-number-requires
 sound-number-requires c κs = search needs
 
-returns-3 : tie.Need-returns-3
-returns-3 c =
-    let a = c .before .before .before .before .before .before .before .before .before .before .before .args in
-    sound-8-9 (a .t1) (right (c .before .before .before .before .before .before)) (a .k) (a .block .now) (c .before .before .before .before .if2 .left) _ (c .before .before .before .interval .ensures) (c .before .sound-number .result) (c .before .sound-number .ensures) (c .if3 .taken)
+returns-2 : tie.Need-returns-2
+unfolding soundOf soundedNumber
+returns-2 c =
+    let a = c .before .before .before .before .before .before .before .before .before .args in
+    let r = c .before .before .before .before .before .reach-number in
+    let n = c .before .sound-number in
+    refused-own (a .t1) (a .k) (r .result) (r .ensures) (c .before .before .before .before .if1 .left) _ _ (n .result)
+    (n .ensures ∙ ap (λ (d : ℕ). soundNumber d (getD (a .t1 .fingerprints) (a .k) noFingerprint) (length (a .block .now))) (c .before .before .before .interval .ensures))
+    (c .if2 .taken)
 
 heard-requires : tie.Need-heard-requires
 heard-requires c κs = search needs
 
 mul-heard : tie.Need-mul-heard
-mul-heard c = search needs
+mul-heard c = omega (arith, in-table (c .before .before .before .before .before))
 
 element-set-from-heard : tie.Need-element-set-from-heard
-element-set-from-heard c = omega (arith, within-32 (c .before .before .before .before .before))
+element-set-from-heard c = omega (arith, in-table (c .before .before .before .before .before))
 
-returns-4 : tie.Need-returns-4
-returns-4 c =
-    let a = c .before .before .before .before .before .before .before .before .before .before .before .before .args in
-    sound-0 (a .t1) (right (c .before .before .before .before .before .before .before)) (a .k) (a .block .now) (c .before .before .before .before .before .if2 .left) _ (c .before .before .before .before .interval .ensures) (sym (c .before .before .sound-number .ensures) ∙ c .before .if3 .left) (c .heard .result) (c .heard .ensures)
+returns-3 : tie.Need-returns-3
+unfolding soundOf soundedNumber
+returns-3 c =
+    let a = c .before .before .before .before .before .before .before .before .before .before .args in
+    let r = c .before .before .before .before .before .before .reach-number in
+    let n = c .before .before .sound-number in
+    let i = c .before .before .before .before .interval in
+    heard-own (a .t1) (a .k) (r .result) (r .ensures) (c .before .before .before .before .before .if1 .left) _ _ (n .result)
+    (n .ensures ∙ ap (λ (d : ℕ). soundNumber d (getD (a .t1 .fingerprints) (a .k) noFingerprint) (length (a .block .now))) (i .ensures))
+    (c .before .if2 .left) (c .heard .result)
+    (c .heard .ensures ∙ ap (λ (d : ℕ). heardOf d (getD (a .t1 .fingerprints) (a .k) noFingerprint) (a .block .now)) (i .ensures))
 
 pub sound-spec : {M : Type 1} → statement M
 sound-spec =
     tie.close
     (tie.spec
-    is-set-requires
+    reach-number-requires
     returns
-    cast-if2
-    returns-2
     interval-requires
     mul-f
     element-copy-out-f
     sound-number-requires
-    returns-3
+    returns-2
     heard-requires
     mul-heard
     element-set-from-heard
-    returns-4)
+    returns-3)
