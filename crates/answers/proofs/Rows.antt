@@ -6,7 +6,7 @@ use lib.ListN.{length}
 use Rattle.answers.specs.declared.Hand.{Hand}
 use Rattle.answers.specs.declared.Hand.the-variants.{Pack, Sample, Rewrite, Wrap, Unwrap, Write}
 use Rattle.answers.specs.declared.Cause.{Cause}
-use Rattle.answers.specs.declared.Cause.the-variants.{UnknownTag, TooShort, TooLong, RoomAbove, IdPresent, VideoValues, UnusedPlace, CutShort}
+use Rattle.answers.specs.declared.Cause.the-variants.{UnknownTag, TooShort, TooLong, RoomAbove, IdPresent, VideoValues, UnusedPlace, OtherKind, CutShort}
 use Rattle.answers.specs.Lines.{handRow, handSize}
 use Rattle.answers.specs.Faults.{causeRow, causeSize, causeTag, causeTags}
 
@@ -26,4 +26,5 @@ cause-within RoomAbove = (omega arith, (omega arith, (omega arith, omega arith))
 cause-within IdPresent = (omega arith, (omega arith, (omega arith, omega arith)))
 cause-within VideoValues = (omega arith, (omega arith, (omega arith, omega arith)))
 cause-within UnusedPlace = (omega arith, (omega arith, (omega arith, omega arith)))
+cause-within OtherKind = (omega arith, (omega arith, (omega arith, omega arith)))
 cause-within CutShort = (omega arith, (omega arith, (omega arith, omega arith)))

@@ -14,8 +14,8 @@ use Rattle.picture.specs.declared.Told.the-variants.{Open, Nothing, Value}
 use Rattle.answers.specs.declared.Cause.{Cause}
 use Rattle.answers.specs.declared.Hand.{Hand}
 use Rattle.answers.specs.declared.Answer.{Answer}
-use Rattle.answers.specs.declared.Answer.the-variants.{Setup, Line, Sound, VideoRestart, AudioRestart, Handed, Reported, Bad, Finished}
-use Rattle.answers.specs.Words.{setup, line, sound, field}
+use Rattle.answers.specs.declared.Answer.the-variants.{Setup, Line, Sound, Instant, VideoRestart, AudioRestart, Handed, Reported, Bad, Finished}
+use Rattle.answers.specs.Words.{setup, line, sound, instant, field}
 use Rattle.answers.specs.Lines.{numberLine, toldText, lineLine, handRow, handSize, handWord, hexPart, noSpill, handedLine, lineWith, saidOf, lineOf, Quiet}
 use Rattle.answers.specs.Faults.{causeRow, causeSize, causeTag, causeTags, recordWord, atByte, colon, causeText, faultText}
 use Rattle.answers.proofs.Watch.{hex-part-size, spill-none}
@@ -60,6 +60,7 @@ unfolding lineOf lineWith Quiet
 answer-fits (Setup n) left h q = omega (arith, number-size setup n)
 answer-fits (Line n told) left h q = omega (arith, line-size n told)
 answer-fits (Sound n) left h q = omega (arith, number-size sound n)
+answer-fits (Instant n) left h q = omega (arith, number-size instant n)
 answer-fits VideoRestart left h q = omega arith
 answer-fits AudioRestart left h q = omega arith
 answer-fits (Handed hand d) left h q = handed-size hand d left (q .0) h
@@ -73,6 +74,7 @@ unfolding saidOf lineOf lineWith handedLine noSpill Quiet
 quiet-said (Setup n) left q = refl
 quiet-said (Line n told) left q = refl
 quiet-said (Sound n) left q = refl
+quiet-said (Instant n) left q = refl
 quiet-said VideoRestart left q = refl
 quiet-said AudioRestart left q = refl
 quiet-said (Handed hand d) left q =

@@ -5,7 +5,7 @@ use lib.ListN.{take}
 use Rattle.text.specs.Spelling.{hexText}
 use Rattle.text.specs.Lines.{item}
 use Rattle.answers.specs.declared.Cause.{Cause}
-use Rattle.answers.specs.declared.Cause.the-variants.{UnknownTag, TooShort, TooLong, RoomAbove, IdPresent, VideoValues, UnusedPlace, CutShort}
+use Rattle.answers.specs.declared.Cause.the-variants.{UnknownTag, TooShort, TooLong, RoomAbove, IdPresent, VideoValues, UnusedPlace, OtherKind, CutShort}
 
 -- a cause's words: a row filled up with spaces, and how much of it they are
 abbrev pub causeRow : Cause → List ℕ
@@ -23,6 +23,8 @@ causeRow IdPresent = 102 ∷ 108 ∷ 97 ∷ 116 ∷ 32 ∷ 99 ∷ 111 ∷ 110 �
 causeRow VideoValues = 102 ∷ 108 ∷ 97 ∷ 116 ∷ 32 ∷ 99 ∷ 111 ∷ 110 ∷ 116 ∷ 101 ∷ 110 ∷ 116 ∷ 115 ∷ 32 ∷ 119 ∷ 105 ∷ 116 ∷ 104 ∷ 32 ∷ 109 ∷ 111 ∷ 114 ∷ 101 ∷ 32 ∷ 116 ∷ 104 ∷ 97 ∷ 110 ∷ 32 ∷ 50 ∷ 32 ∷ 118 ∷ 105 ∷ 100 ∷ 101 ∷ 111 ∷ 32 ∷ 118 ∷ 97 ∷ 108 ∷ 117 ∷ 101 ∷ 115 ∷ 32 ∷ 32 ∷ 32 ∷ 32 ∷ 32 ∷ 32 ∷ []
 -- `flat contents with an unused video place not zero`
 causeRow UnusedPlace = 102 ∷ 108 ∷ 97 ∷ 116 ∷ 32 ∷ 99 ∷ 111 ∷ 110 ∷ 116 ∷ 101 ∷ 110 ∷ 116 ∷ 115 ∷ 32 ∷ 119 ∷ 105 ∷ 116 ∷ 104 ∷ 32 ∷ 97 ∷ 110 ∷ 32 ∷ 117 ∷ 110 ∷ 117 ∷ 115 ∷ 101 ∷ 100 ∷ 32 ∷ 118 ∷ 105 ∷ 100 ∷ 101 ∷ 111 ∷ 32 ∷ 112 ∷ 108 ∷ 97 ∷ 99 ∷ 101 ∷ 32 ∷ 110 ∷ 111 ∷ 116 ∷ 32 ∷ 122 ∷ 101 ∷ 114 ∷ 111 ∷ []
+-- `kind other than 1, 2 or 5`
+causeRow OtherKind = 107 ∷ 105 ∷ 110 ∷ 100 ∷ 32 ∷ 111 ∷ 116 ∷ 104 ∷ 101 ∷ 114 ∷ 32 ∷ 116 ∷ 104 ∷ 97 ∷ 110 ∷ 32 ∷ 49 ∷ 44 ∷ 32 ∷ 50 ∷ 32 ∷ 111 ∷ 114 ∷ 32 ∷ 53 ∷ 32 ∷ 32 ∷ 32 ∷ 32 ∷ 32 ∷ 32 ∷ 32 ∷ 32 ∷ 32 ∷ 32 ∷ 32 ∷ 32 ∷ 32 ∷ 32 ∷ 32 ∷ 32 ∷ 32 ∷ 32 ∷ 32 ∷ 32 ∷ 32 ∷ 32 ∷ 32 ∷ 32 ∷ []
 -- `cut short by the end of the input`
 causeRow CutShort = 99 ∷ 117 ∷ 116 ∷ 32 ∷ 115 ∷ 104 ∷ 111 ∷ 114 ∷ 116 ∷ 32 ∷ 98 ∷ 121 ∷ 32 ∷ 116 ∷ 104 ∷ 101 ∷ 32 ∷ 101 ∷ 110 ∷ 100 ∷ 32 ∷ 111 ∷ 102 ∷ 32 ∷ 116 ∷ 104 ∷ 101 ∷ 32 ∷ 105 ∷ 110 ∷ 112 ∷ 117 ∷ 116 ∷ 32 ∷ 32 ∷ 32 ∷ 32 ∷ 32 ∷ 32 ∷ 32 ∷ 32 ∷ 32 ∷ 32 ∷ 32 ∷ 32 ∷ 32 ∷ 32 ∷ 32 ∷ 32 ∷ []
 
@@ -34,6 +36,7 @@ causeSize RoomAbove = 16
 causeSize IdPresent = 37
 causeSize VideoValues = 43
 causeSize UnusedPlace = 49
+causeSize OtherKind = 25
 causeSize CutShort = 33
 
 -- an unknown tag follows in hexadecimal
@@ -45,6 +48,7 @@ causeTag RoomAbove = 0
 causeTag IdPresent = 0
 causeTag VideoValues = 0
 causeTag UnusedPlace = 0
+causeTag OtherKind = 0
 causeTag CutShort = 0
 
 abbrev pub causeTags : Cause → ℕ
@@ -55,6 +59,7 @@ causeTags RoomAbove = 0
 causeTags IdPresent = 0
 causeTags VideoValues = 0
 causeTags UnusedPlace = 0
+causeTags OtherKind = 0
 causeTags CutShort = 0
 
 unfoldable pub causeText : Cause → List ℕ

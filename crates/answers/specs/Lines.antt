@@ -13,8 +13,8 @@ use Rattle.picture.specs.declared.Told.the-variants.{Open, Nothing, Value}
 use Rattle.answers.specs.declared.Hand.{Hand}
 use Rattle.answers.specs.declared.Hand.the-variants.{Pack, Sample, Rewrite, Wrap, Unwrap, Write}
 use Rattle.answers.specs.declared.Answer.{Answer}
-use Rattle.answers.specs.declared.Answer.the-variants.{Setup, Line, Sound, VideoRestart, AudioRestart, Handed, Reported, Bad, Finished}
-use Rattle.answers.specs.Words.{setup, line, sound, field, fieldNone, videoRestart, audioRestart, spilled, bad}
+use Rattle.answers.specs.declared.Answer.the-variants.{Setup, Line, Sound, Instant, VideoRestart, AudioRestart, Handed, Reported, Bad, Finished}
+use Rattle.answers.specs.Words.{setup, line, sound, instant, field, fieldNone, videoRestart, audioRestart, spilled, bad}
 
 -- `word N`
 unfoldable pub numberLine : List ℕ → ℕ → List ℕ
@@ -87,6 +87,7 @@ unfoldable pub lineWith : (List ℕ → List ℕ) → Answer → List ℕ → Li
 lineWith spill (Setup number) left = numberLine setup number
 lineWith spill (Line number told) left = lineLine number told
 lineWith spill (Sound number) left = numberLine sound number
+lineWith spill (Instant number) left = numberLine instant number
 lineWith spill VideoRestart left = videoRestart ++ newline
 lineWith spill AudioRestart left = audioRestart ++ newline
 lineWith spill (Handed hand d) left = handedLine spill hand d left
@@ -108,6 +109,7 @@ Quiet (Reported size) left = size ≤ length left
 Quiet (Setup number) left = 0 ≤ 0
 Quiet (Line number told) left = 0 ≤ 0
 Quiet (Sound number) left = 0 ≤ 0
+Quiet (Instant number) left = 0 ≤ 0
 Quiet VideoRestart left = 0 ≤ 0
 Quiet AudioRestart left = 0 ≤ 0
 Quiet (Bad cause) left = 0 ≤ 0

@@ -14,6 +14,10 @@ line = 108 ∷ 105 ∷ 110 ∷ 101 ∷ 32 ∷ []
 abbrev pub sound : List ℕ
 sound = 115 ∷ 111 ∷ 117 ∷ 110 ∷ 100 ∷ 32 ∷ []
 
+-- `instant `
+abbrev pub instant : List ℕ
+instant = 105 ∷ 110 ∷ 115 ∷ 116 ∷ 97 ∷ 110 ∷ 116 ∷ 32 ∷ []
+
 -- ` field `
 abbrev pub field : List ℕ
 field = 32 ∷ 102 ∷ 105 ∷ 101 ∷ 108 ∷ 100 ∷ 32 ∷ []

@@ -16,6 +16,7 @@ fn cause_row(cause: Cause) -> [u8; 49]
         Cause::IdPresent => *b"flat contents with ID present above 1            ",
         Cause::VideoValues => *b"flat contents with more than 2 video values      ",
         Cause::UnusedPlace => *b"flat contents with an unused video place not zero",
+        Cause::OtherKind => *b"kind other than 1, 2 or 5                        ",
         Cause::CutShort => *b"cut short by the end of the input                ",
     }
 }
@@ -31,6 +32,7 @@ fn cause_size(cause: Cause) -> usize
         Cause::IdPresent => 37,
         Cause::VideoValues => 43,
         Cause::UnusedPlace => 49,
+        Cause::OtherKind => 25,
         Cause::CutShort => 33,
     }
 }
@@ -46,6 +48,7 @@ fn cause_tag(cause: Cause) -> u8
         Cause::IdPresent => 0,
         Cause::VideoValues => 0,
         Cause::UnusedPlace => 0,
+        Cause::OtherKind => 0,
         Cause::CutShort => 0,
     }
 }
@@ -62,6 +65,7 @@ fn cause_tags(cause: Cause) -> usize
         Cause::IdPresent => 0,
         Cause::VideoValues => 0,
         Cause::UnusedPlace => 0,
+        Cause::OtherKind => 0,
         Cause::CutShort => 0,
     }
 }

@@ -14,6 +14,7 @@ pub enum Cause {
     IdPresent,
     VideoValues,
     UnusedPlace,
+    OtherKind,
     CutShort,
 }
 
@@ -32,6 +33,7 @@ pub enum Answer {
     Setup(u8),
     Line(u8, Told),
     Sound(u8),
+    Instant(u8),
     VideoRestart,
     AudioRestart,
     Handed(Hand, Done),

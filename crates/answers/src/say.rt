@@ -144,6 +144,7 @@ pub fn say(a: Answer, work: &[u8], out: &mut [u8]) -> usize
         Answer::Setup(n) => say_number(b"setup ", n, out),
         Answer::Line(n, told) => say_line(n, told, out),
         Answer::Sound(n) => say_number(b"sound ", n, out),
+        Answer::Instant(n) => say_number(b"instant ", n, out),
         Answer::VideoRestart => text::put(b"video restart\n", out, 0),
         Answer::AudioRestart => text::put(b"audio restart\n", out, 0),
         Answer::Handed(hand, done) => say_handed(hand, done, work, out),

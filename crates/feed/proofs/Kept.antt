@@ -23,6 +23,7 @@ use Rattle.packet.specs.Reading as unpacket
 use Rattle.container.specs.Writing.{writeDone, writeOut}
 use Rattle.session.specs.declared.Session.{Session}
 use Rattle.session.specs.declared.Packed.{Packed}
+use Rattle.session.specs.Session.{instantOf}
 use Rattle.session.specs.Packing.{packNumber, contentsOf, sessionAfter, refusedWith, packedWith, packOf, packOut}
 use Rattle.flat.specs.Unflat.{unflat}
 use Rattle.report.specs.Report.{reported}
@@ -36,12 +37,15 @@ use Rattle.answers.specs.declared.Hand.{Hand}
 use Rattle.answers.specs.declared.Hand.the-variants.{Pack, Sample, Rewrite, Wrap, Unwrap, Write}
 use Rattle.feed.specs.declared.Room.{Room}
 use Rattle.feed.specs.declared.Room.the-variants.{Of, Not}
+use Rattle.feed.specs.declared.Brought.{Brought}
+use Rattle.feed.specs.declared.Brought.the-variants as brought
 use Rattle.answers.specs.declared.Answer.{Answer}
-use Rattle.answers.specs.declared.Answer.the-variants.{Setup, Line, Sound, VideoRestart, AudioRestart, Handed, Reported, Bad, Finished}
+use Rattle.answers.specs.declared.Answer.the-variants.{Setup, Line, Sound, Instant, VideoRestart, AudioRestart, Handed, Reported, Bad, Finished}
 use Rattle.feed.specs.declared.Answered.{Answered}
 use Rattle.answers.specs.Lines.{untouched, fresh, isUntouched, Quiet}
 use Rattle.feed.specs.Alone.{Reply, inWork, roomAt, sampleLent, sampleIn, sampleFed, readFed, rewriteDone, rewriteOut, writeLent, lentFed, roomIn, roomFed, aloneFed}
-use Rattle.feed.specs.Calls.{Step, begun, lined, sounded, doneOf, packed, setupFed, lineFed, soundFed, packIn, packFed, restartFed, sessionFed}
+use Rattle.feed.specs.Values.{instantIn}
+use Rattle.feed.specs.Calls.{Step, begun, lined, sounded, instanted, doneOf, packed, setupFed, lineFed, soundFed, packIn, packFed, restartFed, instantWith, instantFed, sessionFed}
 use Rattle.feed.specs.Feed.{leaves, fed, recordFed, front}
 use Rattle.answers.proofs.Watch.{untouched-is, untouched-size, untouched-drop, work-size, work-untouched}
 use Rattle.feed.proofs.Rooms.{room-most}
@@ -136,6 +140,7 @@ quiet-work (Reported size) left h q = omega (arith, work-size left h)
 quiet-work (Setup n) left h q = q
 quiet-work (Line n told) left h q = q
 quiet-work (Sound n) left h q = q
+quiet-work (Instant n) left h q = q
 quiet-work VideoRestart left h q = q
 quiet-work AudioRestart left h q = q
 quiet-work (Bad cause) left h q = q
@@ -221,8 +226,13 @@ plain-held : (t : Bool) (a b : Answered) → Quiet (a .answer) fresh → Quiet (
 plain-held true a b q r = none-held _ q
 plain-held false a b q r = none-held _ r
 
+instant-held : (s : Session) (k : ℕ) (b : Brought) → Held (instantWith s k b .answer) fresh
+unfolding instantWith instanted Quiet
+instant-held s k (brought.Of i) = none-held (Instant (instantOf s k i .number)) (omega arith)
+instant-held s k (brought.Not cause) = bad-held cause
+
 session-held : (s : Session) (tag : ℕ) (p : List ℕ) → HeldStep (sessionFed s tag p)
-unfolding sessionFed setupFed begun lineFed lined soundFed sounded packFed restartFed Quiet
+unfolding sessionFed setupFed begun lineFed lined soundFed sounded packFed restartFed instantFed Quiet
 session-held s tag p =
     chosen HeldStep (eqb tag 0x10) _ _ (λ _. plain-held (leb 2 (length p)) _ _ (omega arith) (omega arith))
     (λ _. chosen HeldStep (eqb tag 0x11) _ _ (λ _. plain-held (leb 2 (length p)) _ _ (omega arith) (omega arith))
@@ -230,7 +240,8 @@ session-held s tag p =
     (λ _. chosen HeldStep (eqb tag 0x13) _ _ (λ _. pack-held s p (roomAt p 0) refl)
     (λ _. chosen HeldStep (eqb tag 0x14) _ _ (λ _. plain-held (eqb (length p) 0) _ _ (omega arith) (omega arith))
     (λ _. chosen HeldStep (eqb tag 0x15) _ _ (λ _. plain-held (eqb (length p) 0) _ _ (omega arith) (omega arith))
-    (λ _. bad-held (UnknownTag tag)))))))
+    (λ _. chosen HeldStep (eqb tag 0x16) _ _ (λ _. instant-held s (byteAt p 0) (instantIn p))
+    (λ _. bad-held (UnknownTag tag))))))))
 
 fed-held : (s : Session) (tag : ℕ) (p : List ℕ) → HeldStep (fed s tag p)
 unfolding fed leaves

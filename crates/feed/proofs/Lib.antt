@@ -1,4 +1,5 @@
 pub mod Rooms
+pub mod Instants
 pub mod Kept
 pub mod Sizes
 pub mod Steps

@@ -1,4 +1,4 @@
--- The calls on a session: tags 10h to 15h (FEED's table).
+-- The calls on a session: tags 10h to 16h (FEED's table).
 use Prim.Native.Nat.{ℕ}
 use mathlib.Core.List.{List}
 use mathlib.Core.Bool.{cond}
@@ -12,18 +12,21 @@ use Rattle.session.specs.declared.Begun.{Begun}
 use Rattle.session.specs.declared.Lined.{Lined}
 use Rattle.session.specs.declared.Sounded.{Sounded}
 use Rattle.session.specs.declared.Packed.{Packed}
-use Rattle.session.specs.Session.{setupOf, lineOf, soundOf, videoRestarted, audioRestarted}
+use Rattle.session.specs.Session.{setupOf, lineOf, soundOf, instantOf, videoRestarted, audioRestarted}
 use Rattle.session.specs.Packing.{packOf, packOut}
 use Rattle.answers.specs.declared.Cause.{Cause}
 use Rattle.answers.specs.declared.Cause.the-variants.{UnknownTag, TooShort, TooLong}
 use Rattle.answers.specs.declared.Hand.the-variants.{Pack}
 use Rattle.feed.specs.declared.Room.{Room}
 use Rattle.feed.specs.declared.Room.the-variants.{Of, Not}
+use Rattle.feed.specs.declared.Brought.{Brought}
+use Rattle.feed.specs.declared.Brought.the-variants as brought
 use Rattle.answers.specs.declared.Answer.{Answer}
-use Rattle.answers.specs.declared.Answer.the-variants.{Setup, Line, Sound, VideoRestart, AudioRestart, Handed, Bad}
+use Rattle.answers.specs.declared.Answer.the-variants.{Setup, Line, Sound, Instant, VideoRestart, AudioRestart, Handed, Bad}
 use Rattle.feed.specs.declared.Answered.{Answered}
 use Rattle.answers.specs.Lines.{untouched, fresh}
 use Rattle.feed.specs.Alone.{roomAt}
+use Rattle.feed.specs.Values.{instantIn}
 
 -- what a record does: its answer with the session that later calls use, and the work buffer as it leaves it
 pub record Step : Type 0 where
@@ -50,6 +53,9 @@ lined l = answers (Line (l .number) (l .told)) (l .session)
 
 unfoldable pub sounded : Sounded → Answered
 sounded h = answers (Sound (h .number)) (h .session)
+
+unfoldable pub instanted : Sounded → Answered
+instanted h = answers (Instant (h .number)) (h .session)
 
 unfoldable pub doneOf : Packed → Done
 doneOf p = record { number = p .number; written = p .written }
@@ -83,6 +89,14 @@ packFed s p = packIn s p (roomAt p 0)
 unfoldable pub restartFed : Session → Session → Answer → List ℕ → Answered
 restartFed s next answer p = cond (eqb (length p) 0) (answers answer next) (badFed s TooLong)
 
+-- 16h: "the instant's call"
+unfoldable pub instantWith : Session → ℕ → Brought → Answered
+instantWith s k (brought.Of i) = instanted (instantOf s k i)
+instantWith s k (brought.Not cause) = badFed s cause
+
+unfoldable pub instantFed : Session → List ℕ → Answered
+instantFed s p = instantWith s (byteAt p 0) (instantIn p)
+
 unfoldable pub sessionFed : Session → ℕ → List ℕ → Step
 sessionFed s tag p =
     cond (eqb tag 0x10) (step (setupFed s p) fresh)
@@ -91,4 +105,5 @@ sessionFed s tag p =
     (cond (eqb tag 0x13) (packFed s p)
     (cond (eqb tag 0x14) (step (restartFed s (videoRestarted s) VideoRestart p) fresh)
     (cond (eqb tag 0x15) (step (restartFed s (audioRestarted s) AudioRestart p) fresh)
-    (step (badFed s (UnknownTag tag)) fresh))))))
+    (cond (eqb tag 0x16) (step (instantFed s p) fresh)
+    (step (badFed s (UnknownTag tag)) fresh)))))))

@@ -1,3 +1,4 @@
 pub mod Alone
+pub mod Values
 pub mod Calls
 pub mod Feed

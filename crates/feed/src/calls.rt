@@ -1,10 +1,12 @@
-// The calls on a session: tags 10h to 15h.
+// The calls on a session: tags 10h to 16h.
 ghost use mathlib.Core.Path.{_≡_};
 ghost use Rattle.answers.specs.Lines.{fresh};
-ghost use Rattle.feed.specs.Calls.{badFed, setupFed, lineFed, soundFed, packFed, restartFed, sessionFed};
+ghost use Rattle.feed.specs.Calls.{badFed, setupFed, lineFed, soundFed, packFed, restartFed, instantFed, sessionFed};
 use crate::Answered;
+use crate::Brought;
 use crate::Room;
 use crate::alone::room_at;
+use crate::values::instant_in;
 use answers::Answer;
 use answers::Cause;
 use answers::Hand;
@@ -98,6 +100,23 @@ fn restart(s: Session, next: Session, answer: Answer, payload: &[u8]) -> Answere
     }
 }
 
+fn instant(s: Session, payload: &[u8]) -> Answered
+    ensures { λ r. ⌜ r ≡ instantFed s (now (payload .entry)) ⌝ }
+{
+    let brought = instant_in(payload);
+    match brought {
+        Brought::Not(cause) => bad(s, cause),
+        Brought::Of(i) => {
+            let h = session::instant(s, payload[0] as usize, i);
+            let next = h.session;
+            Answered {
+                answer: Answer::Instant(h.number),
+                session: next,
+            }
+        }
+    }
+}
+
 pub(crate) fn on_session(s: Session, tag: u8, payload: &[u8], work: &mut [u8]) -> Answered
     requires { ⌜ now work ≡ fresh ⌝ }
     ensures { λ r. ⌜ (r ≡ sessionFed s tag (now (payload .entry)) .answered) × (now (work .exit) ≡ sessionFed s tag (now (payload .entry)) .left) ⌝ }
@@ -121,6 +140,9 @@ pub(crate) fn on_session(s: Session, tag: u8, payload: &[u8], work: &mut [u8]) -
     if tag == 0x15 {
         let next = session::audio_restart(s);
         return restart(s, next, Answer::AudioRestart, payload);
+    }
+    if tag == 0x16 {
+        return instant(s, payload);
     }
     bad(s, Cause::UnknownTag(tag))
 }

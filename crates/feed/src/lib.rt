@@ -5,15 +5,23 @@ ghost use Rattle.answers.specs.Lines.{fresh};
 ghost use Rattle.feed.specs.Feed.{opening, fed, front, fedOf, lineNext};
 use answers::Answer;
 use answers::Cause;
+use floats::Instant;
 use records::Record;
 use session::Session;
 
 mod alone;
 mod calls;
+mod values;
 
 // A room that a record asks for, or why it has none.
 enum Room {
     Of(usize),
+    Not(Cause),
+}
+
+// The instant that a record brings, or why it brings none.
+enum Brought {
+    Of(Instant),
     Not(Cause),
 }
 

@@ -32,6 +32,15 @@ slice-aggregate-say-number-2 c = search needs
 say-number-requires-2 : tie.Need-say-number-requires-2
 say-number-requires-2 c κs = search needs
 
+enum-known-a-4 : tie.Need-enum-known-a-4
+enum-known-a-4 c = search needs
+
+slice-aggregate-say-number-3 : tie.Need-slice-aggregate-say-number-3
+slice-aggregate-say-number-3 c = search needs
+
+say-number-requires-3 : tie.Need-say-number-requires-3
+say-number-requires-3 c κs = search needs
+
 enum-told : tie.Need-enum-told
 enum-told c = search needs
 
@@ -50,20 +59,20 @@ slice-aggregate-put-2 c = search needs
 put-requires-2 : tie.Need-put-requires-2
 put-requires-2 c κs = search needs
 
-enum-known-a-4 : tie.Need-enum-known-a-4
-enum-known-a-4 c = search needs
+enum-known-a-5 : tie.Need-enum-known-a-5
+enum-known-a-5 c = search needs
 
 say-handed-requires : tie.Need-say-handed-requires
 say-handed-requires c κs = search needs
 
-enum-known-a-5 : tie.Need-enum-known-a-5
-enum-known-a-5 c = search needs
+enum-known-a-6 : tie.Need-enum-known-a-6
+enum-known-a-6 c = search needs
 
 say-reported-requires : tie.Need-say-reported-requires
 say-reported-requires c κs = search needs
 
-enum-known-a-6 : tie.Need-enum-known-a-6
-enum-known-a-6 c = search needs
+enum-known-a-7 : tie.Need-enum-known-a-7
+enum-known-a-7 c = search needs
 
 slice-aggregate-put-3 : tie.Need-slice-aggregate-put-3
 slice-aggregate-put-3 c = search needs
@@ -100,39 +109,46 @@ same-length-4 c = search needs
 
 returns-4 : tie.Need-returns-4
 unfolding saidOf lineWith
-returns-4 c = put-as (ap (λ (x : Answer). lineWith spillPart x (c .before .before .before .before .before .before .before .before .before .args .work .now)) (sym (c .before .before .before .before .before .enum-told .given .1))) (c .before .before .put .ensures)
+returns-4 c = put-as (ap (λ (x : Answer). lineWith spillPart x (c .before .before .before .before .before .before .before .before .before .before .args .work .now)) (sym (c .before .before .before .before .before .before .a4 .given .1))) (c .before .before .say-number3 .ensures)
 
 same-length-5 : tie.Need-same-length-5
 same-length-5 c = search needs
 
 returns-5 : tie.Need-returns-5
 unfolding saidOf lineWith
-returns-5 c = put-as (ap (λ (x : Answer). lineWith spillPart x (c .before .before .before .before .before .before .before .before .before .args .work .now)) (sym (c .before .before .before .before .before .enum-told2 .given .1))) (c .before .before .put2 .ensures)
+returns-5 c = put-as (ap (λ (x : Answer). lineWith spillPart x (c .before .before .before .before .before .before .before .before .before .args .work .now)) (sym (c .before .before .before .before .before .enum-told .given .1))) (c .before .before .put .ensures)
 
 same-length-6 : tie.Need-same-length-6
 same-length-6 c = search needs
 
 returns-6 : tie.Need-returns-6
 unfolding saidOf lineWith
-returns-6 c = put-as (ap (λ (x : Answer). lineWith spillPart x (c .before .before .before .before .before .before .before .before .before .args .work .now)) (sym (c .before .before .before .before .before .a4 .given .1))) (c .before .before .say-handed .ensures)
+returns-6 c = put-as (ap (λ (x : Answer). lineWith spillPart x (c .before .before .before .before .before .before .before .before .before .args .work .now)) (sym (c .before .before .before .before .before .enum-told2 .given .1))) (c .before .before .put2 .ensures)
 
 same-length-7 : tie.Need-same-length-7
 same-length-7 c = search needs
 
 returns-7 : tie.Need-returns-7
 unfolding saidOf lineWith
-returns-7 c = put-as (ap (λ (x : Answer). lineWith spillPart x (c .before .before .before .before .before .before .before .before .before .args .work .now)) (sym (c .before .before .before .before .before .a5 .given .1))) (c .before .before .say-reported .ensures)
+returns-7 c = put-as (ap (λ (x : Answer). lineWith spillPart x (c .before .before .before .before .before .before .before .before .before .args .work .now)) (sym (c .before .before .before .before .before .a5 .given .1))) (c .before .before .say-handed .ensures)
 
 same-length-8 : tie.Need-same-length-8
 same-length-8 c = search needs
 
 returns-8 : tie.Need-returns-8
 unfolding saidOf lineWith
-returns-8 c = put-as (ap (λ (x : Answer). lineWith spillPart x (c .before .before .before .before .before .before .before .before .before .before .args .work .now)) (sym (c .before .before .before .before .before .before .a6 .given .1))) (c .before .before .put3 .ensures)
+returns-8 c = put-as (ap (λ (x : Answer). lineWith spillPart x (c .before .before .before .before .before .before .before .before .before .args .work .now)) (sym (c .before .before .before .before .before .a6 .given .1))) (c .before .before .say-reported .ensures)
+
+same-length-9 : tie.Need-same-length-9
+same-length-9 c = search needs
 
 returns-9 : tie.Need-returns-9
 unfolding saidOf lineWith
-returns-9 c = put-as (ap (λ (x : Answer). lineWith spillPart x (c .before .before .before .before .args .work .now)) (sym (c .enum-told3 .given .1))) (put-none _ 0 (omega arith))
+returns-9 c = put-as (ap (λ (x : Answer). lineWith spillPart x (c .before .before .before .before .before .before .before .before .before .before .args .work .now)) (sym (c .before .before .before .before .before .before .a7 .given .1))) (c .before .before .put3 .ensures)
+
+returns-10 : tie.Need-returns-10
+unfolding saidOf lineWith
+returns-10 c = put-as (ap (λ (x : Answer). lineWith spillPart x (c .before .before .before .before .args .work .now)) (sym (c .enum-told3 .given .1))) (put-none _ 0 (omega arith))
 
 pub say-spec : {M : Type 1} → statement M
 say-spec =
@@ -146,17 +162,20 @@ say-spec =
     enum-known-a-3
     slice-aggregate-say-number-2
     say-number-requires-2
+    enum-known-a-4
+    slice-aggregate-say-number-3
+    say-number-requires-3
     enum-told
     slice-aggregate-put
     put-requires
     enum-told-2
     slice-aggregate-put-2
     put-requires-2
-    enum-known-a-4
-    say-handed-requires
     enum-known-a-5
-    say-reported-requires
+    say-handed-requires
     enum-known-a-6
+    say-reported-requires
+    enum-known-a-7
     slice-aggregate-put-3
     put-requires-3
     enum-told-3
@@ -176,4 +195,6 @@ say-spec =
     returns-7
     same-length-8
     returns-8
-    returns-9)
+    same-length-9
+    returns-9
+    returns-10)

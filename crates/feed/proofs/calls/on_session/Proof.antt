@@ -59,12 +59,19 @@ returns-6 : tie.Need-returns-6
 unfolding sessionFed
 returns-6 c = rw (ne-eqb _ 0x10 (c .before .before .before .before .before .before .before .if1 .left), ne-eqb _ 0x11 (c .before .before .before .before .before .before .if2 .left), ne-eqb _ 0x12 (c .before .before .before .before .before .if3 .left), ne-eqb _ 0x13 (c .before .before .before .before .if4 .left), ne-eqb _ 0x14 (c .before .before .before .if5 .left), eq-eqb _ 0x15 (c .before .before .if6 .taken)) (c .restart2 .ensures ∙ ap (λ (n : Session). restartFed (c .before .before .before .before .before .before .before .before .before .before .args .s) n AudioRestart (c .before .before .before .before .before .before .before .before .before .before .args .payload .now)) (c .before .audio-restart .ensures), c .before .before .before .before .before .before .before .before .before .before .pre)
 
-bad-requires : tie.Need-bad-requires
-bad-requires c κs = search needs
+instant-requires : tie.Need-instant-requires
+instant-requires c κs = search needs
 
 returns-7 : tie.Need-returns-7
 unfolding sessionFed
-returns-7 c = rw (ne-eqb _ 0x10 (c .before .before .before .before .before .before .if1 .left), ne-eqb _ 0x11 (c .before .before .before .before .before .if2 .left), ne-eqb _ 0x12 (c .before .before .before .before .if3 .left), ne-eqb _ 0x13 (c .before .before .before .if4 .left), ne-eqb _ 0x14 (c .before .before .if5 .left), ne-eqb _ 0x15 (c .before .if6 .left)) (c .bad .ensures, c .before .before .before .before .before .before .before .before .before .pre)
+returns-7 c = rw (ne-eqb _ 0x10 (c .before .before .before .before .before .before .before .if1 .left), ne-eqb _ 0x11 (c .before .before .before .before .before .before .if2 .left), ne-eqb _ 0x12 (c .before .before .before .before .before .if3 .left), ne-eqb _ 0x13 (c .before .before .before .before .if4 .left), ne-eqb _ 0x14 (c .before .before .before .if5 .left), ne-eqb _ 0x15 (c .before .before .if6 .left), eq-eqb _ 0x16 (c .before .if7 .taken)) (c .instant .ensures, c .before .before .before .before .before .before .before .before .before .before .pre)
+
+bad-requires : tie.Need-bad-requires
+bad-requires c κs = search needs
+
+returns-8 : tie.Need-returns-8
+unfolding sessionFed
+returns-8 c = rw (ne-eqb _ 0x10 (c .before .before .before .before .before .before .before .if1 .left), ne-eqb _ 0x11 (c .before .before .before .before .before .before .if2 .left), ne-eqb _ 0x12 (c .before .before .before .before .before .if3 .left), ne-eqb _ 0x13 (c .before .before .before .before .if4 .left), ne-eqb _ 0x14 (c .before .before .before .if5 .left), ne-eqb _ 0x15 (c .before .before .if6 .left), ne-eqb _ 0x16 (c .before .if7 .left)) (c .bad .ensures, c .before .before .before .before .before .before .before .before .before .before .pre)
 
 pub on-session-spec : {M : Type 1} → statement M
 on-session-spec =
@@ -85,5 +92,7 @@ on-session-spec =
     audio-restart-requires
     restart-requires-2
     returns-6
+    instant-requires
+    returns-7
     bad-requires
-    returns-7)
+    returns-8)
