@@ -1,11 +1,11 @@
-# tables: document 01's formats, rates, mix types and refusal numbers, said once for every script here.
-"""The tables of document 01 that the scripts of tools/ and tests/ share.
+# tables: document 01's formats, rates, mix types and refusal numbers, with those that 02 adds, said once for every script here.
+"""The tables of documents 01 and 02 that the scripts of tools/ and tests/ share.
 
   FORMATS[number]    a Format; format_named("720p") finds one by name
   RATES[code]        a Rate; rate_named("29.97") finds one by name
   MIXES[type]        a Mix
   REFUSALS[number]   what a refusal means
-  NUMBERS[call]      the numbers that a call can answer, in 01's order
+  NUMBERS[call]      the numbers that a call can answer, in the papers' order
 
 All in the papers' words and order; nothing here is taken from a program.
 """
@@ -56,7 +56,7 @@ RATES = {
 # The layout is ffmpeg's name of the channels; its 5.0 comes as L, R, C, Ls, Rs.
 MIXES = {1: Mix(1, "mono", 1, "mono"), 2: Mix(2, "stereo", 2, "stereo"), 5: Mix(5, "5.1", 5, "5.0")}
 
-# 01, "What a caller is told".
+# 01, "What a caller is told"; 14: 02, A3.
 REFUSALS = {
     1: "format, rate pairing, fingerprint count or mix type not listed, or a session that is not set up",
     2: "line length not 2 x width",
@@ -70,6 +70,7 @@ REFUSALS = {
     11: "ID length neither 0 nor 20",
     12: "output too short",
     13: "container above 255 bytes",
+    14: "instant with a NaN, or of another kind than the fingerprint's mix type",
     20: "container under 5 bytes",
     21: "container's version not 0",
     22: "container's size not Length + 3",
@@ -90,11 +91,13 @@ REFUSALS = {
 }
 
 READING = tuple(range(20, 29))
-# 01, "What a caller is told": the numbers of each call as the feed names it, 0 for success. 13 is left out: no container is above 254 bytes.
+# 01, "What a caller is told", and 02, A3 (instant): the numbers of each call as the feed names it, 0 for success. 13 is left out: no container is
+# above 254 bytes.
 NUMBERS = {
     "setup": (0, 1),
     "line": (0, 1, 2, 3, 4, 5),
     "sound": (0, 1, 7, 8, 9),
+    "instant": (0, 1, 7, 14, 9),
     "pack": (0, 1, 10, 11, 12),
     "sample": (0, 1, 2, 12),
     "read": (0, *READING),

@@ -1,5 +1,7 @@
 // audio.rs: mix, filters and kept bits of one audio fingerprint, as the whole history (01, Audio).
 
+use crate::float::Float;
+
 /// The most bits a fingerprint may hold, the unfinished byte included (01, Audio).
 pub const MOST_BITS: usize = 256;
 
@@ -32,10 +34,9 @@ pub fn pseudo_absolute(mixed: i64) -> i64 {
     }
 }
 
-/// The value a(i) of one lent instant.
-fn instant_value(instant: &[u8]) -> i64 {
-    let samples: Vec<i64> = instant.chunks(2).map(|pair| i64::from(i16::from_le_bytes([pair[0], pair[1]]))).collect();
-    pseudo_absolute(mix(&samples))
+/// The samples of one lent instant.
+fn lent_samples(instant: &[u8]) -> Vec<i64> {
+    instant.chunks(2).map(|pair| i64::from(i16::from_le_bytes([pair[0], pair[1]]))).collect()
 }
 
 /// One audio fingerprint since setup or audio restart. Entry i of the first three lists belongs to sample i.
@@ -82,18 +83,36 @@ impl Sound {
         if block.len() % self.instant_size() != 0 {
             return Err(8);
         }
-        let samples = self.value.len() + block.len() / self.instant_size();
-        if self.bits_of(samples) - self.packed > MOST_BITS {
-            return Err(9);
-        }
+        self.refuse_overfill(block.len() / self.instant_size())?;
         for instant in block.chunks(self.instant_size()) {
-            self.enter(instant_value(instant));
+            self.enter(&lent_samples(instant));
+        }
+        Ok(())
+    }
+
+    /// Numbers 14 and 9 of a call with one instant in floating point, then its work. As many values as the kind says.
+    pub fn take_instant(&mut self, values: &[Float]) -> Result<(), u8> {
+        if values.len() != usize::from(self.mix_type) {
+            return Err(14);
+        }
+        let samples: Option<Vec<i64>> = values.iter().map(Float::sample).collect();
+        let samples = samples.ok_or(14)?;
+        self.refuse_overfill(1)?;
+        self.enter(&samples);
+        Ok(())
+    }
+
+    /// Number 9 for so many further instants.
+    fn refuse_overfill(&self, instants: usize) -> Result<(), u8> {
+        if self.bits_of(self.value.len() + instants) - self.packed > MOST_BITS {
+            return Err(9);
         }
         Ok(())
     }
 
     /// Sample i: E(0) = M(0) = 0 and sample 0 enters neither filter (01, Audio; 000, 5.3.3 to 5.3.6).
-    fn enter(&mut self, a: i64) {
+    fn enter(&mut self, samples: &[i64]) {
+        let a = pseudo_absolute(mix(samples));
         let i = self.value.len();
         let (envelope, mean) = if i == 0 {
             (0, 0)

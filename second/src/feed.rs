@@ -4,9 +4,10 @@ use std::io::{self, Read, Write};
 
 use crate::container::{self, AudioPlace, Contents, VideoValues};
 use crate::exact::{self, Tally};
+use crate::float::Float;
 use crate::session::{self, Session};
 use crate::video::{self, FieldEnd};
-use crate::{inspect, packet};
+use crate::{audio, inspect, packet};
 
 pub const MOST_ROOM: usize = 4096;
 pub const FLAT_SIZE: usize = 283;
@@ -51,6 +52,21 @@ impl Payload<'_> {
 
     fn u16(&mut self) -> Result<u16, BadRecord> {
         Ok(u16::from_be_bytes([self.byte()?, self.byte()?]))
+    }
+
+    /// A float's four bytes, low byte first.
+    fn float(&mut self) -> Result<Float, BadRecord> {
+        let bytes = [self.byte()?, self.byte()?, self.byte()?, self.byte()?];
+        Ok(Float::of_bits(u32::from_le_bytes(bytes)))
+    }
+
+    /// Kind, that many values, and nothing more (FEED, 16h).
+    fn floats(&mut self) -> Result<Vec<Float>, BadRecord> {
+        let kind = self.byte()?;
+        audio::instant_size(kind).ok_or(BadRecord)?;
+        let values = (0..kind).map(|_| self.float()).collect::<Result<_, _>>()?;
+        self.nothing_more()?;
+        Ok(values)
     }
 
     fn room(&mut self) -> Result<usize, BadRecord> {
@@ -157,6 +173,7 @@ impl Desk {
                 written("pack", self.session.pack(part.0, room))
             }
             0x14 | 0x15 => self.restart(tag, &part)?,
+            0x16 => format!("instant {}", self.session.instant(part.byte()?, &part.floats()?).err().unwrap_or(0)),
             0x20 => {
                 let (format, room) = (part.byte()?, part.room()?);
                 written("sample", video::sample_line(format, part.0, room).map(|row| row.to_vec()))
@@ -238,15 +255,29 @@ mod tests {
             record(0x10, &[2, 5, 1]),
             record(0x11, &[[0, 1].to_vec(), vec![0; 2560]].concat()),
             record(0x12, &[0, 1, 2]),
+            record(0x16, &[0, 1, 0, 0, 0x80, 0x3F]),
+            record(0x16, &[9, 5].iter().chain(&[0xFF; 20]).copied().collect::<Vec<u8>>()),
             record(0x14, &[]),
             record(0x15, &[]),
             record(0x21, &[0, 7, 4, 0x52, 9, 0xF0, 0xAA]),
             record(0x22, &[0, 7, 0, 7, 4, 0x52, 9, 0xF0, 0xAA]),
             record(0x23, &[0, 1]),
         ];
-        let lines = "pack 1\nsetup 0\nline 0\nsound 0\nvideo restart\naudio restart\n\
+        let lines = "pack 1\nsetup 0\nline 0\nsound 0\ninstant 0\ninstant 7\nvideo restart\naudio restart\n\
             ok seq 7 rate 5 id 0 video 1 240 audio 0\nrewrite 0 0007045209f0aa\nwrap 20\n";
         assert_eq!(printed(&feed.concat()), lines);
+    }
+
+    /// 02, A3: "Demand 3 reads over these samples".
+    #[test]
+    fn the_exact_filters_take_accepted_instants() {
+        let mut feed = record(0x10, &[2, 5, 2]);
+        for top in [0x3F, 0xBF, 0x7F, 0xFF] {
+            feed.extend(record(0x16, &[0, 2, 0, 0, 0x80, top, 1, 0, 0, 0x80]));
+            feed.extend(record(0x16, &[0, 2, 0, 0, 0x80, top, 1, 0, 0x80, 0x7F]));
+        }
+        let desk = run(&mut &feed[..], &mut io::sink(), true).unwrap();
+        assert_eq!((desk.exact.unwrap().samples, desk.fault), (4, None));
     }
 
     #[test]
@@ -260,12 +291,19 @@ mod tests {
             assert_eq!(printed(cut_short), "bad record\n");
         }
         let bad = [
-            record(0x16, &[]),
+            record(0x17, &[]),
             record(0x10, &[2]),
             record(0x11, &[0]),
             record(0x12, &[]),
             record(0x13, &[0x10, 0x01]),
             record(0x14, &[0]),
+            record(0x16, &[]),
+            record(0x16, &[0]),
+            record(0x16, &[0, 1, 0, 0, 0]),
+            record(0x16, &[0, 1, 0, 0, 0, 0, 0]),
+            record(0x16, &[&[0, 5][..], &[0; 4 * 4]].concat()),
+            record(0x16, &[0, 0]),
+            record(0x16, &[&[0, 3][..], &[0; 4 * 3]].concat()),
             record(0x20, &[0, 0]),
             record(0x25, &[0; 284]),
             record(0x25, &[0; 286]),

@@ -10,6 +10,7 @@ mod exact;
 mod feed;
 #[cfg(test)]
 mod figures;
+mod float;
 mod formats;
 mod inspect;
 mod make;

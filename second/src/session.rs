@@ -2,6 +2,7 @@
 
 use crate::audio::{self, Sound};
 use crate::container::{self, AudioPlace, Contents, VideoValues, ID_SIZE, MOST_FINGERPRINTS};
+use crate::float::Float;
 use crate::formats::{Format, Rate};
 use crate::video::{FieldEnd, Picture};
 
@@ -45,10 +46,19 @@ impl Session {
         running.picture.take_line(running.format, number, line)
     }
 
-    pub fn sound(&mut self, fingerprint: u8, block: &[u8]) -> Result<(), u8> {
+    /// Numbers 1 and 7, which blocks and instants share.
+    fn sound_numbered(&mut self, fingerprint: u8) -> Result<&mut Sound, u8> {
         let running = self.0.as_mut().ok_or(1)?;
-        let sound = running.sounds.get_mut(usize::from(fingerprint)).ok_or(7)?;
-        sound.take_block(block)
+        running.sounds.get_mut(usize::from(fingerprint)).ok_or(7)
+    }
+
+    pub fn sound(&mut self, fingerprint: u8, block: &[u8]) -> Result<(), u8> {
+        self.sound_numbered(fingerprint)?.take_block(block)
+    }
+
+    /// One instant in floating point (02, A3).
+    pub fn instant(&mut self, fingerprint: u8, values: &[Float]) -> Result<(), u8> {
+        self.sound_numbered(fingerprint)?.take_instant(values)
     }
 
     pub fn pack(&mut self, id: &[u8], room: usize) -> Result<Vec<u8>, u8> {
@@ -132,6 +142,13 @@ impl Running {
 #[cfg(test)]
 mod tests {
     use super::*;
+    use crate::float::bits_of_ratio;
+
+    const NAN: u32 = 0x7F80_0001;
+
+    fn floats(bits: &[u32]) -> Vec<Float> {
+        bits.iter().map(|&bits| Float::of_bits(bits)).collect()
+    }
 
     fn ready_session(format: u8, rate: u8, mix_types: &[u8]) -> Session {
         let mut session = setup(format, rate, mix_types).unwrap();
@@ -154,6 +171,8 @@ mod tests {
         session.audio_restart();
         assert_eq!(session.line(0, &[]), Err(1));
         assert_eq!(session.sound(99, &[1]), Err(1));
+        assert_eq!(session.instant(99, &floats(&[NAN])), Err(1));
+        assert_eq!(session.instant(0, &floats(&[0])), Err(1));
         assert_eq!(session.pack(&[1], 0), Err(1));
     }
 
@@ -204,6 +223,66 @@ mod tests {
             session.video_restart();
             session.audio_restart();
             run_frame(&mut session);
+        }
+    }
+
+    #[test]
+    fn an_instant_answers_in_order_and_a_refusal_changes_nothing() {
+        let mut session = setup(2, 11, &[1, 2, 5]).unwrap();
+        session.sound(0, &vec![0; 2 * (50 * 256)]).unwrap();
+        assert_eq!(session.instant(3, &floats(&[NAN])), Err(7), "7 before 14");
+        assert_eq!(session.instant(0, &floats(&[NAN])), Err(14), "14 before 9");
+        assert_eq!(session.instant(0, &floats(&[0, 0])), Err(14), "14 before 9, by the kind");
+        assert_eq!(session.instant(0, &floats(&[0])), Err(9));
+        for (k, mix_type) in [1, 2, 5].into_iter().enumerate() {
+            for kind in [1, 2, 5].into_iter().filter(|&kind| kind != mix_type) {
+                assert_eq!(session.instant(k as u8, &floats(&vec![0; kind])), Err(14));
+            }
+            for place in 0..mix_type {
+                let mut values = vec![0x3F00_0000; mix_type];
+                values[place] = NAN;
+                assert_eq!(session.instant(k as u8, &floats(&values)), Err(14));
+            }
+        }
+        let sizes: Vec<usize> = session.0.as_ref().unwrap().sounds.iter().map(|sound| sound.value.len()).collect();
+        assert_eq!(sizes, [50 * 256, 0, 0]);
+    }
+
+    #[test]
+    fn instants_are_counted_as_samples_of_blocks_are() {
+        let mut session = setup(2, 11, &[1]).unwrap();
+        session.sound(0, &vec![0; 2 * 50 * 255]).unwrap();
+        for instant in 0..50 {
+            assert_eq!(session.instant(0, &floats(&[0])), Ok(()), "instant {instant}; the first makes bit 256");
+        }
+        assert_eq!(session.instant(0, &floats(&[0])), Err(9));
+        assert_eq!(session.sound(0, &[0; 2]), Err(9));
+        assert_eq!(session.0.as_ref().unwrap().sounds[0].held_bits(), 256);
+    }
+
+    /// Samples of a loud start and a long quiet after it, all different within an instant.
+    fn samples(channels: usize) -> Vec<i16> {
+        let noise = |at: usize| ((at * at * 31 + at * 7919) % 65_536) as u16 as i16;
+        let loud = (0..1000 * channels).map(noise);
+        loud.chain((0..3000 * channels).map(|at| noise(at) / 4096)).collect()
+    }
+
+    #[test]
+    fn an_instant_of_k_over_32768_is_the_block_of_that_instant() {
+        for mix_type in [1, 2, 5] {
+            let (mut by_blocks, mut by_instants) = (ready_session(2, 3, &[mix_type]), ready_session(2, 3, &[mix_type]));
+            for instant in samples(usize::from(mix_type)).chunks(usize::from(mix_type)) {
+                let block: Vec<u8> = instant.iter().flat_map(|sample| sample.to_le_bytes()).collect();
+                let bits: Vec<u32> = instant.iter().map(|&sample| bits_of_ratio(i64::from(sample), 15)).collect();
+                assert_eq!((by_blocks.sound(0, &block), by_instants.instant(0, &floats(&bits))), (Ok(()), Ok(())));
+            }
+            for _ in 0..2 {
+                let container = by_blocks.pack(&[], 255).unwrap();
+                assert_eq!(container.len(), 13, "five bytes of audio");
+                assert_eq!(by_instants.pack(&[], 255), Ok(container));
+                run_frame(&mut by_blocks);
+                run_frame(&mut by_instants);
+            }
         }
     }
 }

@@ -2,7 +2,7 @@
 
 use super::random::Random;
 use super::script::Script;
-use super::{containers, contents, lines, packets};
+use super::{containers, contents, instants, lines, packets};
 use crate::feed::FLAT_SIZE;
 
 /// A call that touches no session.
@@ -17,7 +17,7 @@ pub fn aside(script: &mut Script) {
 
 /// A payload too short for its fixed part, or too long for it.
 fn wrong_size(script: &mut Script) {
-    let tags = [(0x10, 2), (0x11, 2), (0x12, 1), (0x13, 2), (0x20, 3), (0x22, 2), (0x23, 2), (0x24, 2)];
+    let tags = [(0x10, 2), (0x11, 2), (0x12, 1), (0x13, 2), (0x16, 2), (0x20, 3), (0x22, 2), (0x23, 2), (0x24, 2)];
     match script.random.below(5) {
         0 => {
             let size = 1 + script.random.below(3);
@@ -49,11 +49,11 @@ fn wrong_flat(script: &mut Script) {
 }
 
 fn bad_record(script: &mut Script) {
-    match script.random.below(5) {
+    match script.random.below(7) {
         0 => wrong_size(script),
         1 => wrong_flat(script),
         2 => {
-            let tag = script.random.pick(&[0x00, 0x0F, 0x16, 0x1F, 0x26, 0x30, 0xFF]);
+            let tag = script.random.pick(&[0x00, 0x0F, 0x17, 0x1F, 0x26, 0x30, 0xFF]);
             let payload = script.noise(9);
             script.record(tag, &[], &payload);
         }
@@ -62,6 +62,7 @@ fn bad_record(script: &mut Script) {
             let tag = script.random.pick(&[0x13, 0x22, 0x23, 0x24]);
             script.with_room(tag, room, &[0; 8]);
         }
+        4 | 5 => instants::malformed(script),
         _ => {
             let format = script.random.below(9) as u8;
             script.record(0x20, &[format, 0x10, 0x01], &[]);
@@ -69,19 +70,27 @@ fn bad_record(script: &mut Script) {
     }
 }
 
+fn good_record(script: &mut Script) {
+    if script.random.chance(20) {
+        instants::on_empty(script);
+    } else {
+        aside(script);
+    }
+}
+
 /// A few good records, one that is malformed or cut short, and good ones after it that must not be answered.
 pub fn broken(random: Random, _seed: u64) -> Vec<u8> {
     let mut script = Script::new(random);
     let before = script.random.below(6);
-    (0..before).for_each(|_| aside(&mut script));
+    (0..before).for_each(|_| good_record(&mut script));
     if script.random.chance(30) {
-        aside(&mut script);
+        good_record(&mut script);
         let size = script.feed.len();
         let lost = 1 + script.random.below(6.min(size - 1));
         script.feed.truncate(size - lost);
     } else {
         bad_record(&mut script);
-        aside(&mut script);
+        good_record(&mut script);
     }
     script.feed
 }

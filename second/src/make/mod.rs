@@ -3,6 +3,8 @@
 mod broken;
 mod containers;
 mod contents;
+mod floats;
+mod instants;
 mod lines;
 mod packets;
 mod picture;
@@ -23,11 +25,12 @@ const fn kind(name: &'static str, make: fn(Random, u64) -> Vec<u8>, says: &'stat
     Kind { name, says, make }
 }
 
-pub const KINDS: [Kind; 12] = [
+pub const KINDS: [Kind; 13] = [
     kind("setup", sessions::setup, "setups listed and not, calls on empty sessions"),
     kind("session", sessions::session, "sessions of every format and rate: all calls, in and out of order"),
     kind("picture", sessions::picture, "sessions of every format and rate: mostly lines and packs"),
     kind("sound", sessions::sound, "sessions with much sound, full bit stores, every rate"),
+    kind("instants", instants::instants, "sound in floating point: every class of value and kind, aimed bits"),
     kind("long", sessions::long, "some 280 packs: the counter goes from 255 to 0, the cadence round and round"),
     kind("mixed", sessions::mixed, "a session with calls between that must not touch it"),
     kind("sample", lines::sample, "line sampling by itself"),

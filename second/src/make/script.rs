@@ -1,5 +1,6 @@
 // make/script.rs: a feed in the making, with a session of its own that tells what the next call will meet.
 
+use super::floats;
 use super::picture::{self, Liveliness};
 use super::random::Random;
 use super::sound::Source;
@@ -15,7 +16,7 @@ pub struct Script {
     pub random: Random,
     /// Packs that were not refused.
     pub packs: usize,
-    desk: Desk,
+    pub desk: Desk,
     /// One for each fingerprint, new with every setup and audio restart, as the filters are.
     sources: Vec<Source>,
     liveliness: Liveliness,
@@ -99,6 +100,12 @@ impl Script {
                 break;
             }
         }
+    }
+
+    /// The next instant of a fingerprint's source, as floats of those samples.
+    pub fn source_instant(&mut self, fingerprint: usize, channels: usize) -> Vec<u32> {
+        let samples = self.sources[fingerprint].instant(&mut self.random, channels);
+        samples.into_iter().map(|sample| floats::of_sample(&mut self.random, i64::from(sample))).collect()
     }
 
     pub fn noise(&mut self, count: usize) -> Vec<u8> {

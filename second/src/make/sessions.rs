@@ -1,6 +1,7 @@
 // make/sessions.rs: feeds of session calls: setups, lines, sound, packs and restarts, in and out of order.
 
 use super::broken::aside;
+use super::instants;
 use super::random::Random;
 use super::script::{pairs, Script};
 use crate::container::ID_SIZE;
@@ -43,7 +44,7 @@ fn refused_setup(script: &mut Script) {
 /// Calls on an empty session, some of which other numbers would fit too.
 fn empty_session_calls(script: &mut Script) {
     for _ in 0..1 + script.random.below(5) {
-        match script.random.below(5) {
+        match script.random.below(6) {
             0 => script.record(0x14, &[], &[]),
             1 => script.record(0x15, &[], &[]),
             2 => any_line(script),
@@ -51,6 +52,7 @@ fn empty_session_calls(script: &mut Script) {
                 let block = script.noise(3);
                 script.record(0x12, &[0], &block);
             }
+            4 => instants::on_empty(script),
             _ => {
                 let id_size = script.random.pick(&[0, 1, ID_SIZE]);
                 script.pack(0, id_size);
@@ -84,13 +86,13 @@ fn any_line(script: &mut Script) {
     script.line(number, &line);
 }
 
-/// Sound for a fingerprint, with odd lengths and fingerprints that are not there.
+/// Sound for a fingerprint, by blocks and by instants, with odd lengths and fingerprints that are not there.
 fn any_sound(script: &mut Script) {
     let Some(running) = script.running() else { return };
     let count = running.sounds.len();
     let sizes: Vec<usize> = running.sounds.iter().map(|sound| sound.instant_size()).collect();
     let k = script.random.below(count);
-    match script.random.below(8) {
+    match script.random.below(10) {
         0 => {
             let (k, size) = (script.random.pick(&[count as u8, count as u8 + 1, 255]), script.random.below(12));
             let block = script.noise(size);
@@ -103,6 +105,7 @@ fn any_sound(script: &mut Script) {
             script.record(0x12, &[k as u8], &block);
         }
         2 => script.sound(k, 0),
+        3 | 4 => instants::some(script, k),
         _ => {
             let instants = script.random.pick(&[1, 2, 49, 50, 51, 52, 53, 200, 800]);
             script.sound(k, instants);
@@ -133,6 +136,9 @@ fn brim(script: &mut Script) {
             script.sound(k, decimator - 1);
         }
         _ => script.sound(k, fit),
+    }
+    if script.random.chance(50) {
+        instants::past_the_brim(script, k);
     }
     let more = script.random.pick(&[1, decimator, 2 * decimator]);
     script.sound(k, more);

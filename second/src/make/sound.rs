@@ -75,17 +75,21 @@ impl Source {
         }
     }
 
+    /// The next instant's samples, one for each channel.
+    pub fn instant(&mut self, random: &mut Random, channels: usize) -> Vec<i16> {
+        if self.left == 0 {
+            self.change(random);
+        }
+        self.left -= 1;
+        (0..channels).map(|_| self.sample(random)).collect()
+    }
+
     /// A block of so many instants of so many bytes each.
     pub fn block(&mut self, random: &mut Random, instants: usize, instant_size: usize) -> Vec<u8> {
         let mut block = Vec::with_capacity(instants * instant_size);
         for _ in 0..instants {
-            if self.left == 0 {
-                self.change(random);
-            }
-            self.left -= 1;
-            for _ in 0..instant_size / 2 {
-                block.extend(self.sample(random).to_le_bytes());
-            }
+            let samples = self.instant(random, instant_size / 2);
+            block.extend(samples.into_iter().flat_map(i16::to_le_bytes));
         }
         block
     }
