@@ -1,8 +1,13 @@
-// Samples a second through one audio fingerprint: the static library of crates/bench_audio against a plain Rust program of the same work.
+// Instants a second through one audio fingerprint, in blocks and one by one in floating point: the static library of crates/bench_audio against a plain
+// Rust program of the same work.
+use floats::{five, stereo, Floats};
 use std::time::Instant;
+
+mod floats;
 
 extern "C" {
     fn bench_audio(mix: u8, d: u8, block: *const u8, len: usize, rounds: usize) -> u64;
+    fn bench_floats(mix: u8, d: u8, values: *const f32, len: usize, rounds: usize) -> u64;
 }
 
 const BLOCK: usize = 1920;
@@ -19,18 +24,6 @@ struct Plain {
 
 fn sample(b: &[u8]) -> i32 {
     i16::from_le_bytes([b[0], b[1]]) as i32
-}
-
-fn mono(b: &[u8]) -> i32 {
-    sample(b)
-}
-
-fn stereo(b: &[u8]) -> i32 {
-    (7071 * (sample(b) + sample(&b[2..]))).div_euclid(20000)
-}
-
-fn five(b: &[u8]) -> i32 {
-    (7071 * (sample(b) + sample(&b[2..])) + 10000 * sample(&b[4..]) + 5000 * (sample(&b[6..]) + sample(&b[8..]))).div_euclid(40000)
 }
 
 impl Plain {
@@ -60,10 +53,25 @@ impl Plain {
 
     fn heard(&mut self, mix: u8, block: &[u8]) {
         match mix {
-            1 => block.chunks_exact(2).for_each(|b| self.step(mono(b))),
-            2 => block.chunks_exact(4).for_each(|b| self.step(stereo(b))),
-            _ => block.chunks_exact(10).for_each(|b| self.step(five(b))),
+            1 => block.chunks_exact(2).for_each(|b| self.step(sample(b))),
+            2 => block.chunks_exact(4).for_each(|b| self.step(stereo(sample(b), sample(&b[2..])))),
+            _ => block.chunks_exact(10).for_each(|b| self.step(five(sample(b), sample(&b[2..]), sample(&b[4..]), sample(&b[6..]), sample(&b[8..])))),
         }
+    }
+
+    fn instant(&mut self, mix: u8, i: Floats) -> Result<(), u8> {
+        if i.has_nan() || i.kind() != mix {
+            return Err(14);
+        }
+        if self.wait == 0 && self.held == 256 {
+            return Err(9);
+        }
+        self.step(i.mixed());
+        Ok(())
+    }
+
+    fn instants(&mut self, mix: u8, values: &[f32]) {
+        Floats::each(mix, values, |i| self.instant(mix, i).unwrap());
     }
 
     fn take(&mut self, n: usize) -> [u8; 5] {
@@ -79,12 +87,12 @@ impl Plain {
     }
 }
 
-#[inline(never)]
-fn plain(mix: u8, block: &[u8], rounds: usize) -> u64 {
+// A sum over the bytes taken in so many turns, in each of which something is heard.
+fn turns(rounds: usize, hear: impl Fn(&mut Plain)) -> u64 {
     let mut f = Plain::new();
     let mut sum = 0u64;
     for _ in 0..rounds {
-        f.heard(mix, block);
+        hear(&mut f);
         let n = if f.held >= 40 { 5 } else { 4 };
         for b in f.take(n) {
             sum = (sum * 31 + b as u64) % 4294967296;
@@ -93,38 +101,67 @@ fn plain(mix: u8, block: &[u8], rounds: usize) -> u64 {
     sum
 }
 
-fn noise(n: usize) -> Vec<u8> {
-    // loud and soft stretches, so that the bits differ
-    let mut x = 0x2545f491u32;
-    (0..n / 2)
-        .flat_map(|i| {
-            x ^= x << 13;
-            x ^= x >> 17;
-            x ^= x << 5;
-            let v = (x >> 16) as i16 >> (i / 97 % 12);
-            v.to_le_bytes()
-        })
-        .collect()
+#[inline(never)]
+fn plain(mix: u8, block: &[u8], rounds: usize) -> u64 {
+    turns(rounds, |f| f.heard(mix, block))
 }
 
+#[inline(never)]
+fn plain_floats(mix: u8, values: &[f32], rounds: usize) -> u64 {
+    turns(rounds, |f| f.instants(mix, values))
+}
+
+fn noise(n: usize) -> impl Iterator<Item = u32> {
+    let mut x = 0x2545f491u32;
+    (0..n).map(move |_| {
+        x ^= x << 13;
+        x ^= x >> 17;
+        x ^= x << 5;
+        x
+    })
+}
+
+// Loud and soft stretches, so that the bits differ.
+fn samples(n: usize) -> Vec<u8> {
+    noise(n).enumerate().flat_map(|(i, x)| ((x >> 16) as i16 >> (i / 97 % 12)).to_le_bytes()).collect()
+}
+
+const ROUNDS: usize = 400;
+const RUNS: usize = 80;
+
 // The least time of each of the two, run in turn, so that another load on the computer meets both alike.
-fn main() {
-    let (rounds, runs) = (400, 80);
-    println!("| mix | Rattle, million instants/s | Rust, million instants/s | ratio of times | fingerprints at 48 kHz on one core |");
+fn row(name: &str, rattle: impl Fn() -> u64, rust: impl Fn() -> u64) {
+    let mut least = [f64::MAX; 2];
+    for _ in 0..RUNS {
+        let began = Instant::now();
+        let a = rattle();
+        least[0] = least[0].min(began.elapsed().as_secs_f64());
+        let began = Instant::now();
+        let b = rust();
+        least[1] = least[1].min(began.elapsed().as_secs_f64());
+        assert!(a == b && a > 0, "the two programs differ");
+    }
+    let n = (ROUNDS * BLOCK) as f64;
+    println!("| {} | {:.0} | {:.0} | {:.2} | {:.0} |", name, n / least[0] / 1e6, n / least[1] / 1e6, least[0] / least[1], n / least[0] / 48000.0);
+}
+
+fn head(first: &str) {
+    println!("| {first} | Rattle, million instants/s | Rust, million instants/s | ratio of times | fingerprints at 48 kHz on one core |");
     println!("|--|--|--|--|--|");
-    for (mix, name, size) in [(1u8, "mono", 2usize), (2, "stereo", 4), (5, "5.1", 10)] {
-        let block = noise(size * BLOCK);
-        let (mut rattle, mut rust) = (f64::MAX, f64::MAX);
-        for _ in 0..runs {
-            let t = Instant::now();
-            let a = unsafe { bench_audio(mix, D, block.as_ptr(), block.len(), rounds) };
-            rattle = rattle.min(t.elapsed().as_secs_f64());
-            let t = Instant::now();
-            let b = plain(mix, &block, rounds);
-            rust = rust.min(t.elapsed().as_secs_f64());
-            assert_eq!(a, b, "the two programs differ");
-        }
-        let n = (rounds * BLOCK) as f64;
-        println!("| {} | {:.0} | {:.0} | {:.2} | {:.0} |", name, n / rattle / 1e6, n / rust / 1e6, rattle / rust, n / rattle / 48000.0);
+}
+
+const MIXES: [(u8, &str); 3] = [(1, "mono"), (2, "stereo"), (5, "5.1")];
+
+fn main() {
+    head("blocks");
+    for (mix, name) in MIXES {
+        let block = samples(mix as usize * BLOCK);
+        row(name, || unsafe { bench_audio(mix, D, block.as_ptr(), block.len(), ROUNDS) }, || plain(mix, &block, ROUNDS));
+    }
+    println!();
+    head("instants in floating point");
+    for (mix, name) in MIXES {
+        let values = floats::values(noise(mix as usize * BLOCK));
+        row(name, || unsafe { bench_floats(mix, D, values.as_ptr(), values.len(), ROUNDS) }, || plain_floats(mix, &values, ROUNDS));
     }
 }

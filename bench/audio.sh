@@ -1,5 +1,5 @@
 #!/bin/sh
-# Samples a second through one audio fingerprint, Rattle against plain Rust: sh bench/audio.sh, in the project's folder.
+# Instants a second through one audio fingerprint, in blocks and in floating point, Rattle against plain Rust: sh bench/audio.sh, in the project's folder.
 set -eu
 cd "$(dirname "$0")/.."
 rt staticlib bench_audio >/dev/null

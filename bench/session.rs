@@ -1,6 +1,9 @@
-// The session's calls: the static library of crates/bench_session against a plain Rust session behind a `&mut`, written from document 01.
+// The session's calls: the static library of crates/bench_session against a plain Rust session behind a `&mut`, written from documents 01 and 02 (A3).
+use floats::{five, stereo, Floats};
 use std::hint::black_box;
 use std::time::Instant;
+
+mod floats;
 
 struct Format {
     width: usize,
@@ -89,14 +92,6 @@ fn sample(b: &[u8]) -> i32 {
     i16::from_le_bytes([b[0], b[1]]) as i32
 }
 
-fn stereo(b: &[u8]) -> i32 {
-    (7071 * (sample(b) + sample(&b[2..]))).div_euclid(20000)
-}
-
-fn five(b: &[u8]) -> i32 {
-    (7071 * (sample(b) + sample(&b[2..])) + 10000 * sample(&b[4..]) + 5000 * (sample(&b[6..]) + sample(&b[8..]))).div_euclid(40000)
-}
-
 fn instant_bytes(mix: u8) -> usize {
     [0, 2, 4, 0, 0, 10][mix as usize]
 }
@@ -131,8 +126,8 @@ impl Print {
     fn hear(&mut self, d: u8, block: &[u8]) {
         match self.mix {
             1 => block.chunks_exact(2).for_each(|b| self.step(d, sample(b))),
-            2 => block.chunks_exact(4).for_each(|b| self.step(d, stereo(b))),
-            _ => block.chunks_exact(10).for_each(|b| self.step(d, five(b))),
+            2 => block.chunks_exact(4).for_each(|b| self.step(d, stereo(sample(b), sample(&b[2..])))),
+            _ => block.chunks_exact(10).for_each(|b| self.step(d, five(sample(b), sample(&b[2..]), sample(&b[4..]), sample(&b[6..]), sample(&b[8..])))),
         }
     }
 
@@ -255,6 +250,20 @@ impl Session {
     }
 
     #[inline(never)]
+    fn instant(&mut self, k: usize, i: Floats) -> Result<(), u8> {
+        let d = interval(self.rate);
+        let Some(p) = self.prints.get_mut(k) else { return Err(7) };
+        if i.has_nan() || i.kind() != p.mix {
+            return Err(14);
+        }
+        if p.held + p.new_bits(1, d) > 256 {
+            return Err(9);
+        }
+        p.step(d, i.mixed());
+        Ok(())
+    }
+
+    #[inline(never)]
     fn pack(&mut self, id: &[u8], out: &mut [u8]) -> Result<usize, u8> {
         if !self.ready {
             return Err(10);
@@ -316,6 +325,7 @@ impl Session {
 
 const INSTANTS: usize = 1920;
 const RUNS: usize = 1000;
+const INSTANT_RUNS: usize = 100;
 
 // What is measured, and on what: frames of 32 monitored lines, `extra` others and `blocks` sound blocks for each of two fingerprints.
 #[derive(Clone, Copy)]
@@ -332,6 +342,13 @@ struct Lent {
     block: Vec<u8>,
 }
 
+// Frames of 32 monitored lines in which fingerprints of one mix type hear the first of these instants in turn.
+struct Floating {
+    mixes: Vec<u8>,
+    line: Vec<u8>,
+    values: Vec<f32>,
+}
+
 extern "C" {
     fn bench_session(
         mix: u8, rounds: usize, extra: usize, blocks: usize, even: *const u8, even_size: usize, odd: *const u8, odd_size: usize, block: *const u8,
@@ -340,10 +357,13 @@ extern "C" {
     fn bench_pack(
         mix: u8, rounds: usize, blocks: usize, even: *const u8, even_size: usize, odd: *const u8, odd_size: usize, block: *const u8, block_size: usize,
     ) -> u64;
+    fn bench_instants(
+        mixes: *const u8, count: usize, mix: u8, rounds: usize, line: *const u8, line_size: usize, values: *const f32, values_size: usize,
+    ) -> u64;
 }
 
 // Rattle's and Rust's, for one load.
-type Programs = [fn(&Lent, Load) -> u64; 2];
+type Programs<T, W> = [fn(&T, W) -> u64; 2];
 
 fn rattle(lent: &Lent, load: Load) -> u64 {
     let (even, odd, block) = (&lent.even, &lent.odd, &lent.block);
@@ -381,17 +401,21 @@ fn rust_packs(lent: &Lent, load: Load) -> u64 {
     total
 }
 
-fn sum_in(total: u64, out: &[u8; 32]) -> u64 {
+fn sum_in(total: u64, out: &[u8]) -> u64 {
     out.iter().fold(total, |t, b| (31 * t + *b as u64) % 4294967296)
 }
 
-// A frame that is ready, with its sound.
-fn filled(s: &mut Session, line: &[u8], lent: &Lent, load: Load) {
+fn both_fields(s: &mut Session, line: &[u8]) {
     for first in [89, 652] {
         for k in 0..16 {
             black_box(s.line(first + 24 * k, line).unwrap());
         }
     }
+}
+
+// A frame that is ready, with its sound.
+fn filled(s: &mut Session, line: &[u8], lent: &Lent, load: Load) {
+    both_fields(s, line);
     for _ in 0..load.extra {
         black_box(s.line(1000, line).unwrap());
     }
@@ -415,15 +439,41 @@ fn rust(lent: &Lent, load: Load) -> u64 {
     total
 }
 
+// The load: frames, and instants in each for each fingerprint.
+fn rattle_instants(lent: &Floating, (rounds, instants): (usize, usize)) -> u64 {
+    let (mixes, line) = (&lent.mixes, &lent.line);
+    let values = &lent.values[..instants * mixes.len() * mixes[0] as usize];
+    unsafe { bench_instants(mixes.as_ptr(), mixes.len(), mixes[0], rounds, line.as_ptr(), line.len(), values.as_ptr(), values.len()) }
+}
+
+fn rust_instants(lent: &Floating, (rounds, instants): (usize, usize)) -> u64 {
+    let (mix, count) = (lent.mixes[0], lent.mixes.len());
+    let values = &lent.values[..instants * count * mix as usize];
+    let mut s = Session::new(black_box(3), black_box(5), &lent.mixes);
+    let mut total = 0u64;
+    for _ in 0..rounds {
+        both_fields(&mut s, &lent.line);
+        let mut k = 0;
+        Floats::each(mix, values, |i| {
+            black_box(s.instant(k, i).unwrap());
+            k = if k + 1 < count { k + 1 } else { 0 };
+        });
+        let mut out = [0u8; 255];
+        black_box(s.pack(&[], &mut out).unwrap());
+        total = sum_in(total, &out);
+    }
+    total
+}
+
 fn row(name: &str, [a, b]: [f64; 2]) {
     println!("| {name} | {a:.0} | {b:.0} | {:.2} |", a / b);
 }
 
 // ns for each of so many calls, by which the second load exceeds the first, Rattle's and Rust's: from the least times of each, run in turn, so
 // that another load on the computer meets all alike.
-fn between(programs: Programs, lent: &Lent, less: Load, more: Load, calls: usize) -> [f64; 2] {
+fn between<T, W: Copy>(runs: usize, programs: Programs<T, W>, lent: &T, less: W, more: W, calls: usize) -> [f64; 2] {
     let mut least = [[f64::MAX; 2]; 2];
-    for _ in 0..RUNS {
+    for _ in 0..runs {
         for (load, least) in [less, more].iter().zip(&mut least) {
             let mut sums = [0; 2];
             for i in 0..2 {
@@ -455,24 +505,43 @@ fn main() {
     println!("| 1080i, 25 Hz, two fingerprints | Rattle, ns | Rust, ns | ratio |");
     println!("|--|--|--|--|");
     let load = |rounds, extra, blocks| Load { rounds, extra, blocks };
-    let calls: Programs = [rattle, rust];
-    let packs: Programs = [rattle_packs, rust_packs];
+    let calls: Programs<Lent, Load> = [rattle, rust];
+    let packs: Programs<Lent, Load> = [rattle_packs, rust_packs];
     let two = lent(2);
-    row("Line, not monitored", between(calls, &two, load(1, 0, 0), load(1, 1000, 0), 1000));
+    row("Line, not monitored", between(RUNS, calls, &two, load(1, 0, 0), load(1, 1000, 0), 1000));
     for (mix, name) in [(1, "mono"), (2, "stereo"), (5, "5.1")] {
         let lent = lent(mix);
         let long = load(600, 1, 1);
         assert_eq!(rattle(&lent, long), rust(&lent, long), "the two programs differ where the counter has gone round");
         // two blocks a frame have room for five frames: each is accepted, and each frame has audio with one block as with two
-        row(&format!("Sound, {INSTANTS} instants, {name}"), between(calls, &lent, load(5, 0, 1), load(5, 0, 2), 10));
+        row(&format!("Sound, {INSTANTS} instants, {name}"), between(RUNS, calls, &lent, load(5, 0, 1), load(5, 0, 2), 10));
     }
-    row("Pack, video alone", between(packs, &two, load(10, 0, 0), load(1010, 0, 0), 1000));
-    row("Pack, video and two fingerprints", between(packs, &two, load(10, 0, 1), load(1010, 0, 1), 1000));
+    row("Pack, video alone", between(RUNS, packs, &two, load(10, 0, 0), load(1010, 0, 0), 1000));
+    row("Pack, video and two fingerprints", between(RUNS, packs, &two, load(10, 0, 1), load(1010, 0, 1), 1000));
     for (name, extra, blocks) in [
         ("frame: 32 lines, Pack", 0, 0),
         ("frame: 32 lines, two stereo Sound, Pack", 0, 1),
         ("frame: all 1125 lines, two stereo Sound, Pack", 1093, 1),
     ] {
-        row(name, between(calls, &two, load(2, extra, blocks), load(7, extra, blocks), 5));
+        row(name, between(RUNS, calls, &two, load(2, extra, blocks), load(7, extra, blocks), 5));
     }
+    println!();
+    println!("| an instant in floating point | Rattle, ns | Rust, ns | ratio | all fingerprints at 48 kHz, part of a core: Rattle | Rust |");
+    println!("|--|--|--|--|--|--|");
+    for count in [1, 2, 32] {
+        for (mix, name) in [(1, "mono"), (2, "stereo"), (5, "5.1")] {
+            let values = floats::values((0..2 * INSTANTS * count * mix as usize).map(|_| random()));
+            instant_row(name, &Floating { mixes: vec![mix; count], line: two.even.clone(), values });
+        }
+    }
+}
+
+// Twice a block's instants in a frame have room for five frames, and each frame has audio with them as with a block's.
+fn instant_row(name: &str, lent: &Floating) {
+    let programs: Programs<Floating, (usize, usize)> = [rattle_instants, rust_instants];
+    assert_eq!(rattle_instants(lent, (5, 2 * INSTANTS)), rust_instants(lent, (5, 2 * INSTANTS)), "the two programs differ over five frames");
+    let count = lent.mixes.len();
+    let [a, b] = between(INSTANT_RUNS, programs, lent, (2, INSTANTS), (2, 2 * INSTANTS), 2 * INSTANTS * count);
+    let part = |ns: f64| ns * 48000.0 * count as f64 / 1e7;
+    println!("| {name}, {count} fingerprint{} | {a:.1} | {b:.1} | {:.2} | {:.1} % | {:.2} % |", if count == 1 { "" } else { "s" }, a / b, part(a), part(b));
 }

@@ -1,5 +1,5 @@
 #!/bin/sh
-# Line, Sound, Pack and whole frames through a session, Rattle against plain Rust: sh bench/session.sh, in the project's folder.
+# Line, Sound, Pack, whole frames and instants in floating point through a session, Rattle against plain Rust: sh bench/session.sh, in the project's folder.
 set -eu
 cd "$(dirname "$0")/.."
 rt staticlib bench_session >/dev/null

@@ -1,2 +1,3 @@
 -- The definitions: the turns that are measured.
 pub mod Turns
+pub mod Instants

@@ -17,11 +17,12 @@ bytesIn sum l =
 unfoldable pub fourOrFive : Fingerprint → ℕ
 fourOrFive f = cond (holdsOf f 5) 5 4
 
+-- bytes are taken and summed
+unfoldable pub takenIn : ℕ → Fingerprint → Turn
+takenIn sum f = record { fingerprint = takeOf f (fourOrFive f) .fingerprint; sum = bytesIn sum (takeOf f (fourOrFive f) .bytes) }
+
 unfoldable pub nextTurn : ℕ → List ℕ → Turn → Turn
-nextTurn d block t = record {
-  fingerprint = takeOf (heardOf d (t .fingerprint) block) (fourOrFive (heardOf d (t .fingerprint) block)) .fingerprint;
-  sum = bytesIn (t .sum) (takeOf (heardOf d (t .fingerprint) block) (fourOrFive (heardOf d (t .fingerprint) block)) .bytes);
-}
+nextTurn d block t = takenIn (t .sum) (heardOf d (t .fingerprint) block)
 
 unfoldable pub turns : ℕ → ℕ → List ℕ → ℕ → Turn
 turns mix d block zero = record { fingerprint = freshOf mix; sum = 0 }

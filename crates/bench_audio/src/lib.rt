@@ -1,8 +1,12 @@
-// What bench/audio.sh measures: one fingerprint that hears the same block again and again, with its bytes taken in between.
+// What bench/audio.sh measures: one fingerprint that hears the same block, or the same instants in floating point, again and again, with its bytes taken in between.
 use fingerprint::Fingerprint;
+use floats::Five;
+use floats::Instant;
 ghost use mathlib.Core.Path.{_≡_};
-ghost use Prim.Native.Nat.{_<_};
-ghost use Rattle.bench_audio.specs.Turns.{byteIn, bytesIn, fourOrFive, nextTurn, sumAfter};
+ghost use Prim.Native.Nat.{_*_, _≤_, _<_};
+ghost use lib.ListN.{length};
+ghost use Rattle.bench_audio.specs.Instants.{instantOf, instantIn, instantsIn, allIn, floatSumAfter};
+ghost use Rattle.bench_audio.specs.Turns.{byteIn, bytesIn, fourOrFive, takenIn, nextTurn, sumAfter};
 
 struct Turn {
     fingerprint: Fingerprint,
@@ -34,20 +38,27 @@ fn four_or_five(f: Fingerprint) -> usize
     if fingerprint::holds(f, 5) { 5 } else { 4 }
 }
 
+// Bytes are taken and summed.
+fn taken_in(sum: u64, f: Fingerprint) -> Turn
+    requires { ⌜ sum < 4294967296 ⌝ }
+    ensures { λ r. ⌜ (r ≡ takenIn sum f) × (r .sum < 4294967296) ⌝ }
+{
+    let taken = fingerprint::take(f, four_or_five(f));
+    let rest = taken.fingerprint;
+    let out = taken.bytes;
+    let next = bytes_in(sum, out);
+    Turn {
+        fingerprint: rest,
+        sum: next,
+    }
+}
+
 fn block_in(t: Turn, d: u8, block: &[u8]) -> Turn
     requires { ⌜ t .sum < 4294967296 ⌝ }
     ensures { λ r. ⌜ (r ≡ nextTurn d (now (block .entry)) t) × (r .sum < 4294967296) ⌝ }
 {
     let f = t.fingerprint;
-    let g = fingerprint::heard(f, d, block);
-    let taken = fingerprint::take(g, four_or_five(g));
-    let rest = taken.fingerprint;
-    let out = taken.bytes;
-    let sum = bytes_in(t.sum, out);
-    Turn {
-        fingerprint: rest,
-        sum,
-    }
+    taken_in(t.sum, fingerprint::heard(f, d, block))
 }
 
 // A sum over the bytes taken in so many turns.
@@ -63,6 +74,87 @@ pub extern "C" fn bench_audio(mix: u8, d: u8, block: &[u8], rounds: usize) -> u6
     let mut i = 0;
     while i < rounds {
         t = block_in(t, d, block);
+        i += 1;
+    }
+    t.sum
+}
+
+// The first values as an instant of a mix type, which has as many of them as its number says; a silent one where there are fewer.
+pub fn instant_of(mix: u8, values: &[f32]) -> Instant
+    ensures { λ r. ⌜ r ≡ instantOf mix (now (values .entry)) ⌝ }
+{
+    if values.len() < mix as usize {
+        return Instant::Mono(0.0);
+    }
+    if mix == 1 {
+        return Instant::Mono(values[0]);
+    }
+    if mix == 2 {
+        return Instant::Stereo(values[0], values[1]);
+    }
+    if mix == 5 {
+        return Instant::Five(Five {
+            L: values[0],
+            R: values[1],
+            C: values[2],
+            Ls: values[3],
+            Rs: values[4],
+        });
+    }
+    Instant::Mono(0.0)
+}
+
+// An instant is heard unless it is refused.
+fn instant_in(f: Fingerprint, d: u8, i: Instant) -> Fingerprint
+    ensures { λ r. ⌜ r ≡ instantIn d f i ⌝ }
+{
+    let number = fingerprint::instant_number(f, d, i);
+    if number != 0 {
+        return f;
+    }
+    fingerprint::heard_instant(f, d, i)
+}
+
+// The first n instants that values hold one after the other.
+fn instants_in(f: Fingerprint, mix: u8, d: u8, values: &[f32], n: usize) -> Fingerprint
+    requires { ⌜ n * mix ≤ length (now values) ⌝ }
+    ensures { λ r. ⌜ r ≡ instantsIn mix d (now (values .entry)) f n ⌝ }
+{
+    let mut g = f;
+    let mut at = 0;
+    let mut i = 0;
+    while i < n {
+        g = instant_in(g, d, instant_of(mix, &values[at..]));
+        at = at + (mix as usize);
+        i += 1;
+    }
+    g
+}
+
+// And all of them.
+fn all_in(f: Fingerprint, mix: u8, d: u8, values: &[f32]) -> Fingerprint
+    ensures { λ r. ⌜ r ≡ allIn mix d (now (values .entry)) f ⌝ }
+{
+    if mix == 0 {
+        return f;
+    }
+    instants_in(f, mix, d, values, values.len() / (mix as usize))
+}
+
+// A sum over the bytes taken in so many turns, in each of which all instants are heard one by one.
+#[no_mangle]
+pub extern "C" fn bench_floats(mix: u8, d: u8, values: &[f32], rounds: usize) -> u64
+    ensures { λ r. ⌜ r ≡ floatSumAfter mix d (now (values .entry)) rounds ⌝ }
+{
+    let f = fingerprint::fresh(mix);
+    let mut t = Turn {
+        fingerprint: f,
+        sum: 0,
+    };
+    let mut i = 0;
+    while i < rounds {
+        let g = t.fingerprint;
+        t = taken_in(t.sum, all_in(g, mix, d, values));
         i += 1;
     }
     t.sum

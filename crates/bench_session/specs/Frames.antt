@@ -3,7 +3,7 @@ use Prim.Native.Nat.{ℕ, zero, suc, _+_, _*_, _%_}
 use mathlib.Core.List.{List, [], _∷_}
 use mathlib.Core.Bool.{cond}
 use lib.Dec.{eqb}
-use lib.ListN.{getD, replicate}
+use lib.ListN.{replicate}
 use Rattle.session.specs.declared.Session.{Session}
 use Rattle.session.specs.Session.{setupOf, lineOf, soundOf}
 use Rattle.session.specs.Packing.{packOf, packOut}
@@ -28,24 +28,27 @@ unfoldable pub sounds : Session → List ℕ → ℕ → Session
 sounds s block zero = s
 sounds s block (suc n) = soundOf (soundOf (sounds s block n) 0 block .session) 1 block .session
 
--- the lines of both fields (VStart 89 and 652), `extra` that are not monitored, and the sound
+-- the lines of both fields (VStart 89 and 652)
+unfoldable pub bothFields : List ℕ → Session → Session
+bothFields line s = fieldLines (fieldLines s 89 line 16) 652 line 16
+
+-- those, `extra` that are not monitored, and the sound
 unfoldable pub filledWith : ℕ → ℕ → List ℕ → List ℕ → Session → Session
-filledWith extra blocks line block s = sounds (otherLines (fieldLines (fieldLines s 89 line 16) 652 line 16) line extra) block blocks
+filledWith extra blocks line block s = sounds (otherLines (bothFields line s) line extra) block blocks
 
 -- a sum that tells the order of the bytes
 unfoldable pub byteIn : ℕ → ℕ → ℕ
 byteIn sum b = (sum * 31 + b) % 4294967296
 
--- the first n bytes
-unfoldable pub bytesIn : ℕ → List ℕ → ℕ → ℕ
-bytesIn sum l zero = sum
-bytesIn sum l (suc n) = byteIn (bytesIn sum l n) (getD l n 0)
+unfoldable pub bytesIn : ℕ → List ℕ → ℕ
+bytesIn sum [] = sum
+bytesIn sum (b ∷ l) = bytesIn (byteIn sum b) l
 
 -- a frame is filled and packed, with no ID, into 32 bytes that were zero
 unfoldable pub frameOf : ℕ → ℕ → List ℕ → List ℕ → Turn → Turn
 frameOf extra blocks line block t = record {
   session = packOf (filledWith extra blocks line block (t .session)) [] 32 .session;
-  sum = bytesIn (t .sum) (packOut (filledWith extra blocks line block (t .session)) [] (replicate 32 0)) 32;
+  sum = bytesIn (t .sum) (packOut (filledWith extra blocks line block (t .session)) [] (replicate 32 0));
 }
 
 -- the frames have the two lines in turn
@@ -66,4 +69,4 @@ secondWith mix blocks even odd block = filledWith 0 blocks odd block (frameOf 0 
 -- one session's container, n times
 unfoldable pub packings : Session → ℕ → ℕ
 packings s zero = 0
-packings s (suc n) = bytesIn (packings s n) (packOut s [] (replicate 32 0)) 32
+packings s (suc n) = bytesIn (packings s n) (packOut s [] (replicate 32 0))

@@ -1,2 +1,3 @@
 -- The definitions: the frames that are measured.
 pub mod Frames
+pub mod Instants

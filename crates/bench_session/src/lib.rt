@@ -1,8 +1,12 @@
-// What bench/session.sh measures: frames of a 1080i session at 25 Hz through the session's calls, and a sum over their containers.
+// What bench/session.sh measures: frames of a 1080i session at 25 Hz through the session's calls, with blocks or with instants in floating point, and a sum over
+// their containers.
 use session::Session;
 ghost use mathlib.Core.Path.{_≡_};
 ghost use Prim.Native.Nat.{_<_, _≤_};
-ghost use Rattle.bench_session.specs.Frames.{fieldLines, otherLines, sounds, filledWith, byteIn, bytesIn, frameOf, lineAt, sumAfter, packings, secondWith};
+ghost use Rattle.bench_session.specs.Instants.{instantFrame, instantSumAfter};
+ghost use Rattle.bench_session.specs.Frames.{fieldLines, bothFields, otherLines, sounds, filledWith, byteIn, bytesIn, frameOf, lineAt, sumAfter, packings, secondWith};
+
+mod instants;
 
 struct Turn {
     session: Session,
@@ -54,13 +58,20 @@ fn heard(s: Session, n: usize, block: &[u8]) -> Session
     t
 }
 
+// The lines of both fields.
+fn both_fields(s: Session, line: &[u8]) -> Session
+    ensures { λ r. ⌜ r ≡ bothFields (now (line .entry)) s ⌝ }
+{
+    let one = field(s, 89, line);
+    field(one, 652, line)
+}
+
 // A frame that is ready, with its sound.
 fn filled(s: Session, extra: usize, blocks: usize, line: &[u8], block: &[u8]) -> Session
     ensures { λ r. ⌜ r ≡ filledWith extra blocks (now (line .entry)) (now (block .entry)) s ⌝ }
 {
-    let one = field(s, 89, line);
-    let two = field(one, 652, line);
-    let more = others(two, extra, line);
+    let ready = both_fields(s, line);
+    let more = others(ready, extra, line);
     heard(more, blocks, block)
 }
 
@@ -71,13 +82,13 @@ fn byte_in(sum: u64, b: u8) -> u64
     (sum * 31 + (b as u64)) % 4294967296
 }
 
-fn bytes_in(sum: u64, bytes: &[u8; 32]) -> u64
+fn bytes_in(sum: u64, bytes: &[u8]) -> u64
     requires { ⌜ sum < 4294967296 ⌝ }
-    ensures { λ r. ⌜ (r ≡ bytesIn sum (now (bytes .entry)) 32) × (r < 4294967296) ⌝ }
+    ensures { λ r. ⌜ (r ≡ bytesIn sum (now (bytes .entry))) × (r < 4294967296) ⌝ }
 {
     let mut total = sum;
     let mut i = 0;
-    while i < 32 {
+    while i < bytes.len() {
         total = byte_in(total, bytes[i]);
         i += 1;
     }
@@ -177,4 +188,41 @@ pub extern "C" fn bench_pack(
     let between = first.session;
     let ready = filled(between, 0, blocks, odd, block);
     packed_again(ready, rounds, even)
+}
+
+// A frame with instants for each fingerprint, and its container, which fits in 255 bytes.
+fn instant_frame(t: Turn, count: usize, mix: u8, line: &[u8], values: &[f32]) -> Turn
+    requires { ⌜ t .sum < 4294967296 ⌝ }
+    ensures { λ r. ⌜ (r ≡ instantFrame count mix (now (line .entry)) (now (values .entry)) t) × (r .sum < 4294967296) ⌝ }
+{
+    let s = t.session;
+    let ready = both_fields(s, line);
+    let heard = instants::all_heard(ready, count, mix, values);
+    let mut out = [0u8; 255];
+    let packed = session::pack(heard, &line[..0], &mut out);
+    let sum = bytes_in(t.sum, &out);
+    let next = packed.session;
+    Turn { session: next, sum }
+}
+
+// A sum over the containers of so many frames with instants for each fingerprint.
+#[no_mangle]
+pub extern "C" fn bench_instants(
+    mixes: &[u8],
+    mix: u8,
+    rounds: usize,
+    line: &[u8],
+    values: &[f32],
+) -> u64
+    ensures { λ r. ⌜ r ≡ instantSumAfter (now (mixes .entry)) mix (now (line .entry)) (now (values .entry)) rounds ⌝ }
+{
+    let begun = session::setup(3, 5, mixes);
+    let s = begun.session;
+    let mut t = Turn { session: s, sum: 0 };
+    let mut i = 0;
+    while i < rounds {
+        t = instant_frame(t, mixes.len(), mix, line, values);
+        i += 1;
+    }
+    t.sum
 }

@@ -7,8 +7,11 @@ use Rattle.laws.proofs.Once.{OneResult, OneLeft, OneOutcome}
 use Rattle.answers.proofs.fault.put_fault.Reads as answers-fault-put-fault
 use Rattle.answers.proofs.say.say.Reads as answers-say-say
 use Rattle.bench_audio.proofs.bench_audio.Reads as bench-audio-bench-audio
+use Rattle.bench_audio.proofs.instant_of.Reads as bench-audio-instant-of
+use Rattle.bench_audio.proofs.bench_floats.Reads as bench-audio-bench-floats
 use Rattle.bench_session.proofs.bench_session.Reads as bench-session-bench-session
 use Rattle.bench_session.proofs.bench_pack.Reads as bench-session-bench-pack
+use Rattle.bench_session.proofs.bench_instants.Reads as bench-session-bench-instants
 use Rattle.bench_video.proofs.bench_sample.Reads as bench-video-bench-sample
 use Rattle.bench_video.proofs.bench_lines.Reads as bench-video-bench-lines
 use Rattle.container.proofs.blank_print.Reads as container-blank-print
@@ -107,11 +110,20 @@ answers-say-say-unique = answers-theorems.say-unique
 pub bench-audio-bench-audio-unique : OneResult bench-audio-bench-audio.Post
 bench-audio-bench-audio-unique = bench-audio-theorems.bench-audio-unique
 
+pub bench-audio-instant-of-unique : OneResult bench-audio-instant-of.Post
+bench-audio-instant-of-unique = bench-audio-theorems.instant-of-unique
+
+pub bench-audio-bench-floats-unique : OneResult bench-audio-bench-floats.Post
+bench-audio-bench-floats-unique = bench-audio-theorems.bench-floats-unique
+
 pub bench-session-bench-session-unique : OneResult bench-session-bench-session.Post
 bench-session-bench-session-unique = bench-session-theorems.bench-session-unique
 
 pub bench-session-bench-pack-unique : OneResult bench-session-bench-pack.Post
 bench-session-bench-pack-unique = bench-session-theorems.bench-pack-unique
+
+pub bench-session-bench-instants-unique : OneResult bench-session-bench-instants.Post
+bench-session-bench-instants-unique = bench-session-theorems.bench-instants-unique
 
 pub bench-video-bench-sample-unique : OneOutcome bench-video-bench-sample.Post (λ κs s. now (s .1 .1 .0))
 bench-video-bench-sample-unique = bench-video-theorems.bench-sample-unique

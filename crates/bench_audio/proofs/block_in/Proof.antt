@@ -1,10 +1,6 @@
 -- `bench_audio::block_in` meets its contract.
-use Prim.Native.Nat.{ℕ}
-use mathlib.Core.Path.{_≡_, ap, ap₂, _∙_}
-use Rattle.fingerprint.specs.declared.Fingerprint.{Fingerprint}
-use Rattle.fingerprint.specs.declared.Taken.{Taken}
-use Rattle.fingerprint.specs.State.{heardOf, takeOf}
-use Rattle.bench_audio.specs.Turns.{bytesIn, fourOrFive, nextTurn}
+use mathlib.Core.Path.{ap, _∙_}
+use Rattle.bench_audio.specs.Turns.{takenIn, nextTurn}
 use borrow.Author.Needs.{needs}
 use Rattle.bench_audio.proofs.block_in.Statement.{statement}
 use Rattle.bench_audio.proofs.block_in.Tie as tie
@@ -12,29 +8,14 @@ use Rattle.bench_audio.proofs.block_in.Tie as tie
 heard-requires : tie.Need-heard-requires
 heard-requires c κs = search needs
 
-four-or-five-requires : tie.Need-four-or-five-requires
-four-or-five-requires c κs = search needs
-
-take-requires : tie.Need-take-requires
-take-requires c κs = search needs
-
-bytes-in-requires : tie.Need-bytes-in-requires
-bytes-in-requires c κs = search needs
+taken-in-requires : tie.Need-taken-in-requires
+taken-in-requires c κs = search needs
 
 returns : tie.Need-returns
 unfolding nextTurn
 returns c =
-    let a = c .before .before .before .before .before .before .before .before .args in
-    let g = c .before .before .before .before .before .heard in
-    let n = c .before .before .before .before .four-or-five in
-    let k = c .before .before .before .take in
-    let t : k .result ≡ takeOf (heardOf (a .d) (a .t .fingerprint) (a .block .now)) (fourOrFive (heardOf (a .d) (a .t .fingerprint) (a .block .now))) =
-    k .ensures ∙ (ap (takeOf (g .result)) (n .ensures) ∙ ap (λ (f : Fingerprint). takeOf f (fourOrFive f)) (g .ensures)) in (
-      ap₂ (λ (f : Fingerprint) (s : ℕ). record { fingerprint = f; sum = s }) (ap (λ (x : Taken). x .fingerprint) t)
-          (c .bytes-in .ensures .0 ∙ ap (λ (x : Taken). bytesIn (a .t .sum) (x .bytes)) t),
-      c .bytes-in .ensures .1,
-    )
+    let a = c .before .before .before .before .args in
+    (c .taken-in .ensures .0 ∙ ap (takenIn (a .t .sum)) (c .before .heard .ensures), c .taken-in .ensures .1)
 
 pub block-in-spec : {M : Type 1} → statement M
-block-in-spec =
-    tie.close (tie.spec heard-requires four-or-five-requires take-requires bytes-in-requires returns)
+block-in-spec = tie.close (tie.spec heard-requires taken-in-requires returns)

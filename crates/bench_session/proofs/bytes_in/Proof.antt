@@ -1,26 +1,31 @@
--- `bench_session::bytes_in` meets its contract. The loop's invariant: the sum over the bytes passed.
-use Prim.Native.Nat.{ℕ, _-_, _≤_, _<_}
-use mathlib.Core.Path.{_≡_, refl, ap, _∙_}
+-- `bench_session::bytes_in` meets its contract. The loop's invariant: the sum is that over what is left.
+use Prim.Native.Nat.{ℕ, _+_, _-_, _≤_, _<_}
+use mathlib.Core.Path.{_≡_, refl, sym, ap, _∙_}
+use mathlib.Core.List.{List}
 use native.Mathlib.Numerals.{add-one}
 use native.Mathlib.Omega.{arith}
 use borrow.Author.Needs.{needs}
-use lib.ListN.{getD}
+use lib.ListN.{length, getD, drop}
+use lib.Seq.{drop-cons, drop-length}
 use Rattle.bench_session.specs.Frames.{byteIn, bytesIn}
 use Rattle.bench_session.proofs.bytes_in.Statement.{statement}
 use Rattle.bench_session.proofs.bytes_in.Tie as tie
 
+step : (sum : ℕ) (l : List ℕ) (i : ℕ) → i < length l → bytesIn sum (drop i l) ≡ bytesIn (byteIn sum (getD l i 0)) (drop (i + 1) l)
+unfolding bytesIn
+step sum l i h = rw add-one (ap (bytesIn sum) (drop-cons l i 0 h))
+
 abbrev Inv-loop : tie.InvT-loop
-Inv-loop sum bytes total₀ i₀ total i = (i ≤ 32) × (total ≡ bytesIn sum bytes i) × (total < 4294967296)
+Inv-loop sum bytes total₀ i₀ total i = (i ≤ length bytes) × (bytesIn sum bytes ≡ bytesIn total (drop i bytes)) × (total < 4294967296)
 
 abbrev μ-loop : tie.MeasureT-loop
-μ-loop sum bytes total₀ i₀ total i = 32 - i
+μ-loop sum bytes total₀ i₀ total i = length bytes - i
 
 loop-holds : tie.Need-loop-holds Inv-loop μ-loop
-unfolding bytesIn
 loop-holds c = (search needs, refl, search needs)
 
-element-copy-out-byte-in : tie.Need-element-copy-out-byte-in Inv-loop μ-loop
-element-copy-out-byte-in c = search needs
+shared-slice-read-byte-in : tie.Need-shared-slice-read-byte-in Inv-loop μ-loop
+shared-slice-read-byte-in c = search needs
 
 byte-in-requires : tie.Need-byte-in-requires Inv-loop μ-loop
 byte-in-requires c κs = search needs
@@ -32,17 +37,19 @@ loop-less : tie.Need-loop-less Inv-loop μ-loop
 loop-less c = search needs
 
 loop-again : tie.Need-loop-again Inv-loop μ-loop
-unfolding bytesIn
 loop-again c =
-    let a = c .before .before .before .before .args in
+    let b = c .before .before .before .before .before .args .bytes .now in
     let l = c .before .before .before .loop in
-    (search needs, rw add-one (c .byte-in .ensures .0 ∙ ap (λ (n : ℕ). byteIn n (getD (a .bytes .now) (l .i) 0)) (l .inv .1)), c .byte-in .ensures .1)
+    let next = ap (λ (n : ℕ). bytesIn n (drop (l .i + 1) b)) (sym (c .byte-in .ensures .0)) in
+    (search needs, l .inv .1 ∙ step (l .total) b (l .i) (c .before .before .loop-test .taken) ∙ next, c .byte-in .ensures .1)
 
 returns : tie.Need-returns Inv-loop μ-loop
+unfolding bytesIn
 returns c =
-    let a = c .before .before .args in
-    let all : c .before .loop .i ≡ 32 = omega arith in
-    (c .before .loop .inv .1 ∙ ap (bytesIn (a .sum) (a .bytes .now)) all, c .before .loop .inv .2)
+    let b = c .before .before .before .args .bytes .now in
+    let l = c .before .loop in
+    let all : l .i ≡ length b = omega arith in
+    (sym (l .inv .1 ∙ ap (bytesIn (l .total)) (ap (λ (n : ℕ). drop n b) all ∙ drop-length b)), l .inv .2)
 
 pub bytes-in-spec : {M : Type 1} → statement M
 bytes-in-spec =
@@ -51,7 +58,7 @@ bytes-in-spec =
     Inv-loop
     μ-loop
     loop-holds
-    element-copy-out-byte-in
+    shared-slice-read-byte-in
     byte-in-requires
     add-i
     loop-less

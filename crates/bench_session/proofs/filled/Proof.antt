@@ -1,16 +1,13 @@
 -- `bench_session::filled` meets its contract.
 use mathlib.Core.Path.{ap, _∙_}
 use Rattle.session.specs.declared.Session.{Session}
-use Rattle.bench_session.specs.Frames.{fieldLines, otherLines, sounds, filledWith}
+use Rattle.bench_session.specs.Frames.{otherLines, sounds, filledWith}
 use borrow.Author.Needs.{needs}
 use Rattle.bench_session.proofs.filled.Statement.{statement}
 use Rattle.bench_session.proofs.filled.Tie as tie
 
-field-requires : tie.Need-field-requires
-field-requires c κs = search needs
-
-field-requires-2 : tie.Need-field-requires-2
-field-requires-2 c κs = search needs
+both-fields-requires : tie.Need-both-fields-requires
+both-fields-requires c κs = search needs
 
 others-requires : tie.Need-others-requires
 others-requires c κs = search needs
@@ -21,14 +18,13 @@ heard-requires c κs = search needs
 returns : tie.Need-returns
 unfolding filledWith
 returns c =
-    let a = c .before .before .before .before .before .before .args in
+    let a = c .before .before .before .before .before .args in
     let line = a .line .now in
     let block = a .block .now in
     c .heard .ensures
     ∙ ap (λ (t : Session). sounds t block (a .blocks)) (c .before .others .ensures)
-    ∙ ap (λ (t : Session). sounds (otherLines t line (a .extra)) block (a .blocks)) (c .before .before .field2 .ensures)
-    ∙ ap (λ (t : Session). sounds (otherLines (fieldLines t 652 line 16) line (a .extra)) block (a .blocks)) (c .before .before .before .field .ensures)
+    ∙ ap (λ (t : Session). sounds (otherLines t line (a .extra)) block (a .blocks)) (c .before .before .both-fields .ensures)
 
 pub filled-spec : {M : Type 1} → statement M
 filled-spec =
-    tie.close (tie.spec field-requires field-requires-2 others-requires heard-requires returns)
+    tie.close (tie.spec both-fields-requires others-requires heard-requires returns)

@@ -23,6 +23,9 @@ slice-aggregate-pack-2 c = search needs
 pack-requires : tie.Need-pack-requires
 pack-requires c κs = search needs
 
+slice-aggregate-bytes-in : tie.Need-slice-aggregate-bytes-in
+slice-aggregate-bytes-in c = search needs
+
 bytes-in-requires : tie.Need-bytes-in-requires
 bytes-in-requires c κs = search needs
 
@@ -35,7 +38,7 @@ returns c =
     let full = c .before .before .before .before .before .before .before .filled .ensures in
     let packed : p .result ≡ packOf ready [] 32 = p .ensures .0 ∙ ap (λ (s : Session). packOf s [] 32) full in
     let left : p .last .1 .1 .0 ≡ packOut ready [] (replicate 32 0) = p .ensures .1 ∙ ap (λ (s : Session). packOut s [] (replicate 32 0)) full in (
-      ap₂ (λ (s : Session) (n : ℕ). record { session = s; sum = n }) (ap (λ (k : Packed). k .session) packed) (c .before .bytes-in .ensures .0 ∙ ap (λ (l : List ℕ). bytesIn (a .t .sum) l 32) left),
+      ap₂ (λ (s : Session) (n : ℕ). record { session = s; sum = n }) (ap (λ (k : Packed). k .session) packed) (c .before .bytes-in .ensures .0 ∙ ap (λ (l : List ℕ). bytesIn (a .t .sum) l) left),
       c .before .bytes-in .ensures .1,
     )
 
@@ -47,5 +50,6 @@ frame-spec =
     slice-aggregate-pack
     slice-aggregate-pack-2
     pack-requires
+    slice-aggregate-bytes-in
     bytes-in-requires
     returns)

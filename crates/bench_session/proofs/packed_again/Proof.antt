@@ -1,7 +1,6 @@
 -- `bench_session::packed_again` meets its contract. The loop's invariant: what the packings passed give.
-use Prim.Native.Nat.{ℕ, _-_, _≤_, _<_}
+use Prim.Native.Nat.{_-_, _≤_, _<_}
 use mathlib.Core.Path.{_≡_, ap, ap₂, _∙_}
-use mathlib.Core.List.{List}
 use native.Mathlib.Numerals.{add-one}
 use native.Mathlib.Omega.{arith}
 use borrow.Author.Needs.{needs}
@@ -28,6 +27,9 @@ slice-aggregate-pack-2 c = search needs
 pack-requires : tie.Need-pack-requires Inv-loop μ-loop
 pack-requires c κs = search needs
 
+slice-aggregate-bytes-in : tie.Need-slice-aggregate-bytes-in Inv-loop μ-loop
+slice-aggregate-bytes-in c = search needs
+
 bytes-in-requires : tie.Need-bytes-in-requires Inv-loop μ-loop
 bytes-in-requires c κs = search needs
 
@@ -43,7 +45,7 @@ loop-again c =
     let p = c .before .before .before .pack in
     let l = c .before .before .before .before .before .before .before .loop in (
       search needs,
-      rw add-one (c .bytes-in .ensures .0 ∙ ap₂ (λ (sum : ℕ) (out : List ℕ). bytesIn sum out 32) (l .inv .1) (p .ensures .1)),
+      rw add-one (c .bytes-in .ensures .0 ∙ ap₂ bytesIn (l .inv .1) (p .ensures .1)),
       c .bytes-in .ensures .1,
     )
 
@@ -63,6 +65,7 @@ packed-again-spec =
     slice-aggregate-pack
     slice-aggregate-pack-2
     pack-requires
+    slice-aggregate-bytes-in
     bytes-in-requires
     add-i
     loop-less

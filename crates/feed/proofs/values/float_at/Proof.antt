@@ -1,5 +1,6 @@
 -- `feed::values::float_at` meets its contract: a NaN is made, since `from_bits` has none.
 use mathlib.Core.Path.{_≡_, refl, ap, _∙_}
+use native.Mathlib.Omega.{arith}
 use lib.Ieee.{nan, binary32, div, ofBits}
 use Rattle.feed.specs.Values.{floatAt}
 use Rattle.feed.proofs.Instants.{nan-above, none-below}
@@ -17,10 +18,10 @@ bits-at-requires c κs = search needs
 
 returns : tie.Need-returns
 unfolding floatAt
-returns c = zero-by-zero ∙ nan-above (c .before .bits-at .result) (c .if1 .taken) ∙ ap (ofBits binary32) (c .before .bits-at .ensures)
+returns c = zero-by-zero ∙ nan-above (c .before .bits-at .result) (omega (arith, c .if1 .taken)) ∙ ap (ofBits binary32) (c .before .bits-at .ensures)
 
 float-from-bits-result : tie.Need-float-from-bits-result
-float-from-bits-result c = none-below (c .before .bits-at .result) (c .if1 .left)
+float-from-bits-result c = none-below (c .before .bits-at .result) (omega (arith, c .if1 .left))
 
 returns-2 : tie.Need-returns-2
 unfolding floatAt
