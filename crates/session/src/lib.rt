@@ -189,21 +189,24 @@ pub fn sound(s: Session, k: usize, block: &[u8]) -> Sounded
         };
     }
     let d = rates::interval(settings.rate);
-    let f = s.fingerprints[k];
+    let mut all = s.fingerprints;
+    let f = all[k];
     let number = fingerprint::sound_number(f, d, block.len());
     if number != 0 {
         return Sounded { number, session: s };
     }
     let heard = fingerprint::heard(f, d, block);
-    let mut next = s;
-    next.fingerprints[k] = heard;
+    all[k] = heard;
     Sounded {
         number: 0,
-        session: next,
+        session: Session {
+            programme: p,
+            fingerprints: all,
+        },
     }
 }
 
-// An instant in floating point: 1 for an empty session, 7, then 14 and 9.
+// An instant in floating point: 1 for an empty session, 7, then 14 and 9. A change to a copy of the whole session would take twice the time.
 pub fn instant(s: Session, k: usize, i: Instant) -> Sounded
     ensures { λ r. ⌜ r ≡ instantOf s k i ⌝ }
 {
@@ -217,17 +220,20 @@ pub fn instant(s: Session, k: usize, i: Instant) -> Sounded
         };
     }
     let d = rates::interval(settings.rate);
-    let f = s.fingerprints[k];
+    let mut all = s.fingerprints;
+    let f = all[k];
     let number = fingerprint::instant_number(f, d, i);
     if number != 0 {
         return Sounded { number, session: s };
     }
     let heard = fingerprint::heard_instant(f, d, i);
-    let mut next = s;
-    next.fingerprints[k] = heard;
+    all[k] = heard;
     Sounded {
         number: 0,
-        session: next,
+        session: Session {
+            programme: p,
+            fingerprints: all,
+        },
     }
 }
 

@@ -11,23 +11,23 @@ use Rattle.session.proofs.sound.Statement.{statement}
 use Rattle.session.proofs.sound.Tie as tie
 
 in-table : (c : tie.Else1) → c .before .before .before .before .before .args .k < 32
-in-table c = let a = c .before .before .before .before .before .args in let r = c .before .reach-number in within-32 (a .t1) (a .k) (r .result) (r .ensures) (c .if1 .left)
+in-table c = let a = c .before .before .before .before .before .args in let r = c .before .reach-number in within-32 (a .s) (a .k) (r .result) (r .ensures) (c .if1 .left)
 
 reach-number-requires : tie.Need-reach-number-requires
 reach-number-requires c κs = search needs
 
 returns : tie.Need-returns
 unfolding soundOf soundedNumber
-returns c = let a = c .before .before .before .before .before .args in let r = c .before .reach-number in unreached (a .t1) (a .k) (r .result) (r .ensures) (c .if1 .taken) _ _
+returns c = let a = c .before .before .before .before .before .args in let r = c .before .reach-number in unreached (a .s) (a .k) (r .result) (r .ensures) (c .if1 .taken) _ _
 
 interval-requires : tie.Need-interval-requires
 interval-requires c κs = search needs
 
 mul-f : tie.Need-mul-f
-mul-f c = omega (arith, in-table (c .before))
+mul-f c = omega (arith, in-table (c .before .before))
 
-element-copy-out-f : tie.Need-element-copy-out-f
-element-copy-out-f c = omega (arith, in-table (c .before))
+array-copy-out-f : tie.Need-array-copy-out-f
+array-copy-out-f c = omega (arith, in-table (c .before .before))
 
 sound-number-requires : tie.Need-sound-number-requires
 sound-number-requires c κs = search needs
@@ -35,33 +35,33 @@ sound-number-requires c κs = search needs
 returns-2 : tie.Need-returns-2
 unfolding soundOf soundedNumber
 returns-2 c =
-    let a = c .before .before .before .before .before .before .before .before .before .args in
-    let r = c .before .before .before .before .before .reach-number in
+    let a = c .before .before .before .before .before .before .before .before .before .before .args in
+    let r = c .before .before .before .before .before .before .reach-number in
     let n = c .before .sound-number in
-    refused-own (a .t1) (a .k) (r .result) (r .ensures) (c .before .before .before .before .if1 .left) _ _ (n .result)
-    (n .ensures ∙ ap (λ (d : ℕ). soundNumber d (getD (a .t1 .fingerprints) (a .k) noFingerprint) (length (a .block .now))) (c .before .before .before .interval .ensures))
+    refused-own (a .s) (a .k) (r .result) (r .ensures) (c .before .before .before .before .before .if1 .left) _ _ (n .result)
+    (n .ensures ∙ ap (λ (d : ℕ). soundNumber d (getD (a .s .fingerprints) (a .k) noFingerprint) (length (a .block .now))) (c .before .before .before .before .interval .ensures))
     (c .if2 .taken)
 
 heard-requires : tie.Need-heard-requires
 heard-requires c κs = search needs
 
-mul-heard : tie.Need-mul-heard
-mul-heard c = omega (arith, in-table (c .before .before .before .before .before))
+mul-all : tie.Need-mul-all
+mul-all c = omega (arith, in-table (c .before .before .before .before .before .before))
 
-element-set-from-heard : tie.Need-element-set-from-heard
-element-set-from-heard c = omega (arith, in-table (c .before .before .before .before .before))
+array-set-from-all : tie.Need-array-set-from-all
+array-set-from-all c = omega (arith, in-table (c .before .before .before .before .before .before))
 
 returns-3 : tie.Need-returns-3
 unfolding soundOf soundedNumber
 returns-3 c =
-    let a = c .before .before .before .before .before .before .before .before .before .before .args in
-    let r = c .before .before .before .before .before .before .reach-number in
+    let a = c .before .before .before .before .before .before .before .before .before .before .before .args in
+    let r = c .before .before .before .before .before .before .before .reach-number in
     let n = c .before .before .sound-number in
-    let i = c .before .before .before .before .interval in
-    heard-own (a .t1) (a .k) (r .result) (r .ensures) (c .before .before .before .before .before .if1 .left) _ _ (n .result)
-    (n .ensures ∙ ap (λ (d : ℕ). soundNumber d (getD (a .t1 .fingerprints) (a .k) noFingerprint) (length (a .block .now))) (i .ensures))
+    let i = c .before .before .before .before .before .interval in
+    heard-own (a .s) (a .k) (r .result) (r .ensures) (c .before .before .before .before .before .before .if1 .left) _ _ (n .result)
+    (n .ensures ∙ ap (λ (d : ℕ). soundNumber d (getD (a .s .fingerprints) (a .k) noFingerprint) (length (a .block .now))) (i .ensures))
     (c .before .if2 .left) (c .heard .result)
-    (c .heard .ensures ∙ ap (λ (d : ℕ). heardOf d (getD (a .t1 .fingerprints) (a .k) noFingerprint) (a .block .now)) (i .ensures))
+    (c .heard .ensures ∙ ap (λ (d : ℕ). heardOf d (getD (a .s .fingerprints) (a .k) noFingerprint) (a .block .now)) (i .ensures))
 
 pub sound-spec : {M : Type 1} → statement M
 sound-spec =
@@ -71,10 +71,10 @@ sound-spec =
     returns
     interval-requires
     mul-f
-    element-copy-out-f
+    array-copy-out-f
     sound-number-requires
     returns-2
     heard-requires
-    mul-heard
-    element-set-from-heard
+    mul-all
+    array-set-from-all
     returns-3)
