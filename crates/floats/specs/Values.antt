@@ -12,7 +12,8 @@ abbrev pub signedBy : Bool → ℕ → ℤ
 signedBy false n = pos n
 signedBy true n = negℤ (pos n)
 
--- "a finite one is a whole number over 2 to the 149th": the number whose 2 ^ 149th part is m * 2 ^ e. `proofs.Scaled.whole-value` says that it is
+-- "a finite one is a whole number over 2 to the 149th": the number whose 2 ^ 149th part is m * 2 ^ e, 2 ^ e being the fraction up e / down e.
+-- `proofs.Scaled.whole-value`: nothing is lost
 abbrev pub over149 : ℕ → ℤ → ℕ
 over149 m e = m * up e * 2 ^ 149 / down e
 
