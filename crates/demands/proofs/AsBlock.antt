@@ -1,7 +1,7 @@
 -- The two inputs are one sound: an instant of the fingerprint's own mix type, whose values are whole numbers over 32,768, does to a session just what the
 -- integer block of that one instant does.
 use Prim.Native.Nat.{ℕ, zero, suc, _+_, _-_, _*_, _/_, _%_, _<_}
-use mathlib.Core.Path.{_≡_, refl, sym, ap, ap₂, _∙_}
+use mathlib.Core.Path.{_≡_, refl, sym, ap, ap₂, subst, _∙_}
 use mathlib.Core.Bool.{Bool, true, false, cond}
 use mathlib.Core.List.{List, [], _∷_, map}
 use native.Mathlib.Nat.{zero-mul}
@@ -23,11 +23,15 @@ use Rattle.floats.specs.Instants.{kindOf, valuesIn, anyNan, hasNan, floatValue}
 use Rattle.floats.proofs.Meaning.{over-sample, over-number}
 use Rattle.fingerprint.specs.declared.Fingerprint.{Fingerprint}
 use Rattle.fingerprint.specs.State.{stepOf, after, valuesAt, valuesOf, heardOf, instants, wholeInstants, soundNumber, instantNumber}
+use Rattle.session.specs.declared.Settings.{Settings}
 use Rattle.session.specs.declared.Session.{Session}
 use Rattle.session.specs.declared.Sounded.{Sounded}
 use Rattle.session.specs.Session.{isSet, noFingerprint, reached, heardWith, soundedNumber, soundOf, instantedNumber, instantOf}
-use Rattle.demands.specs.Calls.{sound, instant, saying, answerOf, afterCall}
+use Rattle.demands.specs.Calls.{Setup, sound, instant, saying, Event, begun, answerOf, afterCall, Run}
+use Rattle.demands.specs.Paper.{accepted}
 use Rattle.demands.specs.Blocks.{AllOver, none, more, blockOf}
+use Rattle.demands.proofs.Voices.{voice-at}
+use Rattle.demands.proofs.Runs.{always}
 
 -- ---- the samples
 
@@ -124,3 +128,12 @@ pub as-block : (s : Session) (k : ℕ) (i : Instant) (ws : List ℕ) → AllOver
     → (answerOf s (instant k i) ≡ answerOf s (sound k (blockOf ws))) × (afterCall s (instant k i) ≡ afterCall s (sound k (blockOf ws)))
 unfolding answerOf afterCall
 as-block s k i ws o own = let e = same s k i ws o own in (ap (λ (x : Sounded). saying (x .number)) e, ap (λ (x : Sounded). x .session) e)
+
+-- so it does after any calls from an accepted setup, of the mix type that fingerprint k was set up with
+pub as-block-after : (u : Setup) → accepted u ≡ true → {es : List Event} {t : Session} → Run (begun u) es t → (k : ℕ) (i : Instant) (ws : List ℕ)
+    → AllOver (valuesIn i) ws → kindOf i ≡ getD (u .mixes) k 0
+    → (answerOf t (instant k i) ≡ answerOf t (sound k (blockOf ws))) × (afterCall t (instant k i) ≡ afterCall t (sound k (blockOf ws)))
+as-block-after u a {es} {t} r k i ws o own =
+    let h = always u a r in
+    as-block t k i ws o
+    (λ l. own ∙ sym (voice-at (h .voices) k (subst (λ (s : Settings). k < s .count) (h .settings) l) .mix-type))
