@@ -1,4 +1,4 @@
--- The theorems: the three demands, frames, figures, wrong programs; and the lemmas that they stand on.
+-- The theorems: the three demands, frames, figures, an instant that is a block, wrong programs; and the lemmas that they stand on.
 pub mod Demand1
 pub mod Demand2
 pub mod Demand3

@@ -23,7 +23,7 @@ use Rattle.container.specs.Bytes.{encode}
 use Rattle.container.specs.Writing.{readable, contentsNumber, writeNumber, writeDone, writeOut}
 use Rattle.session.specs.Fingerprints.{withBlanks}
 use Rattle.session.specs.Packing.{idOf, readyNumber}
-use Rattle.demands.specs.Calls.{Setup, Call, line, sound, instant, pack, Answer, Event}
+use Rattle.demands.specs.Calls.{Setup, Call, line, sound, pack, Answer, Event}
 use Rattle.demands.specs.Paper.{linesAt, lines, waitingAt, waiting, samplesAt, samples, madeAt, made, bytesDue, bitsPacked, everyHolds, audioAfter, soundedAt, sounded, printsSaid, audioSaid, contentsSaid, lineSaid, soundSaid, packedSaid, said, accepted, paper, Program, transcript}
 use Rattle.demands.proofs.Listed.{listed}
 use Rattle.demands.proofs.Packable.{said-writes}

@@ -1,4 +1,4 @@
--- The definitions: the calls, document 01 over their history, the demands, the wrong programs.
+-- The definitions: the calls, document 01 over their history, the demands, an instant that is a block, the wrong programs.
 pub mod Calls
 pub mod Paper
 pub mod Demands

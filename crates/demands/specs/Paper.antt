@@ -164,7 +164,7 @@ said u es (pack id out) = packedSaid (readyNumber (isWaiting (waiting (u .format
 said u es video-restart = saying 0
 said u es audio-restart = saying 0
 
--- an empty session, "for which Line, Sound and Pack return 1 first and restarts change nothing"
+-- an empty session, "for which Line, Sound and Pack return 1 first and restarts change nothing"; an instant is sound
 unfoldable pub saidEmpty : Call → Answer
 saidEmpty (line n b) = saying 1
 saidEmpty (sound k b) = saying 1
