@@ -14,6 +14,7 @@ use Rattle.container.specs.declared.Print.{Print}
 use Rattle.container.specs.declared.Contents.{Contents}
 use Rattle.container.specs.Contents.{blankPrint}
 use Rattle.container.specs.Bytes.{idBytes, videoBytes, printBytes, runBytes, audioBytes, partBytes, frontBytes, checkByte, encode}
+use Rattle.container.specs.Sizes.{Sized}
 use Rattle.container.specs.Writing.{RunFits, Fits}
 
 pub print-length : (p : Print) → p .size ≤ length (p .bytes) → length (printBytes p) ≡ p .size + 2
@@ -90,17 +91,6 @@ pub record Shaped (c : Contents) : Type 0 where
   pub id : length (c .id) ≡ 20
   pub prints : length (c .prints) ≡ 32
 
--- 21 + 3 + 225
-pub parts-at-most : (c : Contents) → Shaped c → Fits c → length (partBytes c) ≤ 249
-parts-at-most c s f =
-    omega (
-      arith,
-      parts-length c,
-      id-at-most (c .hasid) (c .id) (s .id),
-      video-at-most (c .video),
-      audio-at-most (c .count) (c .prints) (f .run) (omega (arith, f .run .many, s .prints)),
-    )
-
 pub front-length : (c : Contents) → length (frontBytes c) ≡ length (partBytes c) + 4
 unfolding frontBytes
 front-length c = omega arith
@@ -108,3 +98,14 @@ front-length c = omega arith
 pub encode-length : (c : Contents) → length (encode c) ≡ length (partBytes c) + 5
 unfolding encode
 encode-length c = omega (arith, length-append (frontBytes c) (checkByte (sum (frontBytes c)) ∷ []), front-length c)
+
+pub sized : (c : Contents) → Shaped c → Fits c → Sized c
+sized c s f = record {
+  whole = omega (arith, encode-length c, parts-length c);
+  id = id-at-most (c .hasid) (c .id) (s .id);
+  video = video-at-most (c .video);
+  audio = audio-at-most (c .count) (c .prints) (f .run) (omega (arith, f .run .many, s .prints));
+}
+
+pub at-most-254 : (c : Contents) → Sized c → length (encode c) ≤ 4 + 21 + 3 + 225 + 1
+at-most-254 c z = omega (arith, z .whole, z .id, z .video, z .audio)

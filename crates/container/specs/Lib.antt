@@ -1,5 +1,6 @@
 pub mod Contents
 pub mod Bytes
+pub mod Sizes
 pub mod Parts
 pub mod Reading
 pub mod Writing

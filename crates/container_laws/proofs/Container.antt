@@ -1,5 +1,5 @@
 -- The theorems about containers: both round trips (demand 2), what 29 means, and the largest container.
-use Prim.Native.Nat.{ℕ, _≤_}
+use Prim.Native.Nat.{ℕ, _+_, _≤_}
 use mathlib.Core.List.{List, [], _∷_}
 use mathlib.Core.Path.{_≡_, refl, ap, sym, subst, _∙_}
 use mathlib.Core.Bool.{Bool, true, false, cond}
@@ -7,6 +7,7 @@ use mathlib.Core.Logic.{_↔_}
 use native.Mathlib.Omega.{arith}
 use lib.ListN.{length, take, replicate}
 use lib.Dec.{leb, ltb, eqb}
+use borrow.Author.Tests.{le-leb}
 use Rattle.laws.specs.Bytes.{Bytes}
 use Rattle.laws.specs.Calls.{over, roomNumber, doneWith}
 use Rattle.laws.specs.Sums.{sum}
@@ -19,16 +20,19 @@ use Rattle.container.specs.declared.Print.{Print}
 use Rattle.container.specs.declared.Contents.{Contents}
 use Rattle.container.specs.declared.Reading.{Reading}
 use Rattle.container.specs.Bytes.{idBytes, videoBytes, printBytes, runBytes, audioBytes, partBytes, flagByte, frontBytes, checkByte, encode}
+use Rattle.container.specs.Sizes.{Sized}
 use Rattle.container.specs.Reading.{headerNumber, partsJoined, partsReading, middle, reading}
 use Rattle.container.specs.Parts.{idPart, bothFields, videoPart, printPart, printAt, runOf, audioOf, audioPart}
-use Rattle.container.specs.Writing.{readable, contentsNumber, writeNumber, writeDone, writeOut}
+use Rattle.container.specs.Writing.{allZero, idReadable, videoReadable, printReadable, printsReadable, readable, contentsNumber, writeNumber, writeDone, writeOut}
+use Rattle.container.proofs.Readable.{readable-fits}
+use Rattle.container.proofs.Bytes as bytes
 use Rattle.container.proofs.Outcome.{write-0}
 use Rattle.container_laws.specs.Typed.{Typed}
 use Rattle.container_laws.specs.Given.{ReadAs}
 use Rattle.container_laws.proofs.Back.{written-again}
 use Rattle.container_laws.proofs.There.{read-as-written}
 use Rattle.container_laws.proofs.Gives.{reading-readable}
-use Rattle.container_laws.proofs.Sizes.{at-most-254, encode-bytes}
+use Rattle.container_laws.proofs.Sizes.{accepted-sized, encode-bytes}
 
 -- contents that pass 29 and 13 are readable
 passed : (c : Contents) → contentsNumber c ≡ 0 → readable c ≡ true
@@ -60,9 +64,34 @@ not-29 c room f e = go (leb (length (encode c)) 255) (ltb room (length (encode c
 abbrev pub says : Contents → Reading
 says c = record { number = 0; contents = c }
 
--- an accepted container has 5 to 254 bytes: 4 + 21 + 3 + 225 + 1 at most
+-- ---- how long a container is (02, A7)
+
+-- contents that pass 29 are as long as their parts, and no part is longer than its largest
+pub sized : (c : Contents) → Typed c → readable c ≡ true → Sized c
+sized c t e = bytes.sized c (record { id = t .id-long; prints = t .many }) (readable-fits c (t .many) e)
+
+-- "The largest parts, 4 + 21 + 3 + 225 + 1 bytes, make 254"
+pub at-most-254 : (c : Contents) → Typed c → readable c ≡ true → length (encode c) ≤ 4 + 21 + 3 + 225 + 1
+at-most-254 c t e = bytes.at-most-254 c (sized c t e)
+
+-- so 13 never comes
+pub never-13 : (c : Contents) (room : ℕ) → Typed c → writeDone c room .number ≡ 13 → ⊥
+unfolding writeDone writeNumber doneWith roomNumber contentsNumber
+never-13 c room t = go (readable c) refl
+  where
+    go : (r : Bool) → readable c ≡ r → writeDone c room .number ≡ 13 → ⊥
+    go true e z = short (ltb room (length (encode c))) (rw (e, le-leb (length (encode c)) 255 (omega (arith, at-most-254 c t e))) at z)
+      where
+        short : (u : Bool) → _≡_ {A = ℕ} (cond u 12 0) 13 → ⊥
+        short true h = omega (arith, h)
+        short false h = omega (arith, h)
+    go false e z = omega (arith, rw e at z)
+
+-- an accepted container has 5 to 254 bytes
 pub accepted-size : (s : List ℕ) → Bytes s → reading s .number ≡ 0 → (5 ≤ length s) × (length s ≤ 254)
-accepted-size s b e = at-most-254 s b e
+accepted-size s b e = accepted-sized s b e
+
+-- ---- round trips
 
 -- "An accepted container, written again from what was read, gives its own bytes"
 pub rewritten : (s out : List ℕ) → Bytes s → reading s .number ≡ 0 → length s ≤ length out
@@ -97,9 +126,18 @@ exactly-29 c room t = (λ e r. not-29 c room (some-reading c t .1 r) e, λ f. is
 abbrev full : Print
 full = record { id = 31; mix = 5; size = 5; bytes = replicate 5 255 }
 
-abbrev biggest : Contents
+abbrev pub biggest : Contents
 biggest = record { counter = 255; rate = 5; hasid = true; id = replicate 20 255; video = Two 240 240; count = 32; prints = replicate 32 full }
 
-pub largest : (reading (encode biggest) .number ≡ 0) × (length (encode biggest) ≡ 254)
-unfolding encode frontBytes partBytes idBytes videoBytes audioBytes runBytes printBytes flagByte checkByte sum reading headerNumber partsReading partsJoined middle idPart videoPart bothFields audioPart audioOf runOf printPart printAt over rateListed twoFields mixListed
-largest = (refl, refl)
+-- each part is at its largest; 254 bytes of room take it, one byte less does not; and it is read again
+pub record Largest (c : Contents) : Type 0 where
+  pub id : length (idBytes (c .hasid) (c .id)) ≡ 21
+  pub video : length (videoBytes (c .video)) ≡ 3
+  pub audio : length (audioBytes (c .count) (c .prints)) ≡ 225
+  pub written : writeDone c 254 ≡ done 0 254
+  pub short : writeDone c 253 ≡ done 12 0
+  pub read : reading (encode c) ≡ says c
+
+pub largest : Largest biggest
+unfolding encode frontBytes partBytes idBytes videoBytes audioBytes runBytes printBytes flagByte checkByte sum reading headerNumber partsReading partsJoined middle idPart videoPart bothFields audioPart audioOf runOf printPart printAt over rateListed twoFields mixListed writeDone writeNumber contentsNumber doneWith roomNumber readable idReadable videoReadable printsReadable printReadable allZero
+largest = record { id = refl; video = refl; audio = refl; written = refl; short = refl; read = refl }

@@ -5,96 +5,74 @@ use mathlib.Core.Path.{_≡_, refl, ap, sym, _∙_}
 use mathlib.Core.Bool.{Bool, true, false, cond, _&&_}
 use native.Mathlib.Omega.{arith}
 use native.Mathlib.Nat.{not-suc-le-zero}
-use lib.ListN.{length, getD, take, drop, replicate}
+use lib.ListN.{length, getD, take, drop, length-append, length-drop, length-replicate}
+use lib.Seq.{length-take-le}
 use lib.Dec.{leb, eqb}
 use borrow.Author.Tests.{leb-true}
 use Rattle.laws.specs.Bytes.{Bytes}
 use Rattle.laws.specs.Sums.{sum}
 use Rattle.laws.proofs.Bytes.{bytes-nil, bytes-cons, bytes-append, bytes-take, bytes-drop}
 use Rattle.laws.proofs.Tests.{both, chosen}
-use Rattle.rates.specs.Rates.{twoFields}
 use Rattle.laws.specs.declared.Video.{Video}
 use Rattle.laws.specs.declared.Video.the-variants.{Absent, One, Two}
 use Rattle.container.specs.declared.Print.{Print}
 use Rattle.container.specs.declared.IdPart.{IdPart}
-use Rattle.container.specs.declared.VideoPart.{VideoPart}
-use Rattle.container.specs.declared.PrintPart.{PrintPart}
 use Rattle.container.specs.declared.AudioPart.{AudioPart}
 use Rattle.container.specs.declared.Contents.{Contents}
 use Rattle.container.specs.Bytes.{idBytes, videoBytes, printBytes, runBytes, audioBytes, partBytes, videoFlag, audioFlag, flagByte, frontBytes, checkByte, encode}
-use Rattle.container.specs.Parts.{idPart, oneField, bothFields, videoPart, printPart, printAt, runOf, audioOf, audioPart}
+use Rattle.container.specs.Parts.{idPart, runOf, audioOf, audioPart}
 use Rattle.container.specs.Reading.{idIn, videoIn, audioIn, middle, reading}
 use Rattle.container.specs.Writing.{printReadable, printsReadable, readable}
-use Rattle.container.proofs.Parts.{print-right, print-is}
+use Rattle.container.proofs.Runs.{run-length}
 use Rattle.container.proofs.Readable.{Passes, passes, print-fits, readable-fits}
-use Rattle.container.proofs.Bytes.{parts-at-most}
+use Rattle.container.proofs.Bytes.{Shaped, encode-length, sized, at-most-254}
 use Rattle.container_laws.specs.Typed.{TypedPrint, TypedPrints, TypedVideo, Typed}
-use Rattle.container_laws.proofs.Back.{Accepted, accepted-is, middle-length}
+use Rattle.container_laws.proofs.Back.{Accepted, accepted-is, written-again}
+use Rattle.container_laws.proofs.Gives.{reading-readable}
 
--- ---- no part takes more than 21, 3 and 225 bytes
+-- ---- what was read has arrays of the lengths that the types give, and is as long as its parts
 
-id-most : (flag : ℕ) (b : List ℕ) → idPart flag b .used ≤ 21
+id-20 : (flag : ℕ) (b : List ℕ) → length (idPart flag b .id) ≡ 20
 unfolding idPart
-id-most flag b =
-    let P : IdPart → Type 0 = λ p. p .used ≤ 21 in
-    chosen P (eqb flag 0) _ _ (λ _. omega arith)
-    (λ _. chosen P (leb 21 (length b)) _ _ (λ _. chosen P (eqb (getD b 0 0) 0) _ _ (λ _. omega arith) (λ _. omega arith)) (λ _. omega arith))
+id-20 flag b =
+    let P : IdPart → Type 0 = λ p. length (p .id) ≡ 20 in
+    chosen P (eqb flag 0) _ _ (λ _. refl)
+    (λ _. chosen P (leb 21 (length b)) _ _
+    (λ l. chosen P (eqb (getD b 0 0) 0) _ _ (λ _. length-take-le 20 (drop 1 b) (rw length-drop (omega (arith, leb-true 21 (length b) l)))) (λ _. refl))
+    (λ _. refl))
 
-video-most : (flag rate : ℕ) (b : List ℕ) → videoPart flag rate b .used ≤ 3
-unfolding videoPart oneField bothFields
-video-most flag rate b =
-    let P : VideoPart → Type 0 = λ p. p .used ≤ 3 in
-    let none : 0 ≤ 3 = omega arith in
-    chosen P (eqb flag 0) _ _ (λ _. none)
-    (λ _. chosen P (leb 2 (length b)) _ _
-    (λ _. chosen P (eqb (getD b 0 0) 0x09) _ _
-    (λ _. chosen P (leb (getD b 1 0) 240) _ _ (λ _. omega arith) (λ _. none))
-    (λ _. chosen P (eqb (getD b 0 0) 0x11) _ _
-    (λ _. chosen P (twoFields rate) _ _
-    (λ _. chosen P (leb 3 (length b)) _ _
-    (λ _. chosen P (leb (getD b 1 0) 240) _ _
-    (λ _. chosen P (leb (getD b 2 0) 240) _ _ (λ _. omega arith) (λ _. none)) (λ _. none)) (λ _. none)) (λ _. none)) (λ _. none)))
-    (λ _. none))
-
-run-most : (n : ℕ) (b : List ℕ) → runOf n b .ok ≡ true → runOf n b .used ≤ 7 * n
-unfolding runOf printAt
-run-most zero b e = omega arith
-run-most (suc n) b e =
-    let q = both (printPart b .ok) _ e in
-    let r = print-right b (q .0) in
-    omega (arith, ap (λ (p : PrintPart). p .used) (print-is b r), r .five, run-most n (drop (printPart b .used) b) (q .1))
-
-audio-most : (flag : ℕ) (b : List ℕ) → Bytes b → audioPart flag b .used ≤ 225
+prints-32 : (flag : ℕ) (b : List ℕ) → Bytes b → length (audioPart flag b .prints) ≡ 32
 unfolding audioPart audioOf
-audio-most flag b s =
-    let P : AudioPart → Type 0 = λ p. p .used ≤ 225 in
-    let none : 0 ≤ 225 = omega arith in
+prints-32 flag b s =
+    let P : AudioPart → Type 0 = λ p. length (p .prints) ≡ 32 in
     let n = getD b 0 0 / 8 + 1 in
-    chosen P (eqb flag 0) _ _ (λ _. none)
+    chosen P (eqb flag 0) _ _ (λ _. refl)
     (λ _. chosen P (leb 1 (length b)) _ _
     (λ _. chosen P (eqb (getD b 0 0 % 8) 2) _ _
-    (λ _. chosen P (runOf n (drop 1 b) .ok) _ _ (λ r. omega (arith, run-most n (drop 1 b) r, s 0)) (λ _. none)) (λ _. none))
-    (λ _. none))
+    (λ _. chosen P (runOf n (drop 1 b) .ok) _ _
+    (λ _. simp (length-append, length-drop, length-replicate, run-length) (omega (arith, s 0)))
+    (λ _. refl)) (λ _. refl))
+    (λ _. refl))
 
-pub at-most-254 : (s : List ℕ) → Bytes s → reading s .number ≡ 0 → (5 ≤ length s) × (length s ≤ 254)
+reading-shaped : (s : List ℕ) → Bytes s → reading s .number ≡ 0 → Shaped (reading s .contents)
 unfolding middle
-at-most-254 s small e =
+reading-shaped s small e =
     let a = accepted-is s e in
     let flags = getD s 3 0 in
     let b = middle s in
-    let p = idIn flags b .used in
-    let q = videoIn flags b .used in
-    let five = a .header .five in
-    let m = bytes-take (length s - 5) (drop 4 s) (bytes-drop 4 s small) in (
-      five,
-      omega (
-        arith,
-        a .parts .whole,
-        middle-length s five,
-        id-most (flags / 4 % 2) b,
-        video-most (flags / 2 % 2) (flags / 16) (drop p b),
-        audio-most (flags % 2) (drop (p + q) b) (bytes-drop (p + q) b m),
-      ),
+    let past = idIn flags b .used + videoIn flags b .used in
+    rw (a .says) (record {
+      id = id-20 (flags / 4 % 2) b;
+      prints = prints-32 (flags % 2) (drop past b) (bytes-drop past b (bytes-take (length s - 5) (drop 4 s) (bytes-drop 4 s small)));
+    })
+
+pub accepted-sized : (s : List ℕ) → Bytes s → reading s .number ≡ 0 → (5 ≤ length s) × (length s ≤ 254)
+accepted-sized s small e =
+    let c : Contents = reading s .contents in
+    let h = reading-shaped s small e in
+    let same = ap length (written-again s small e) in (
+      omega (arith, same, encode-length c),
+      omega (arith, same, at-most-254 c (sized c h (readable-fits c (h .prints) (reading-readable s small e)))),
     )
 
 -- ---- what is written are bytes
@@ -155,7 +133,7 @@ unfolding encode frontBytes partBytes checkByte
 encode-bytes c t e =
     let p = passes c e in
     let f = readable-fits c (t .many) e in
-    let l = parts-at-most c (record { id = t .id-long; prints = t .many }) f in
+    let l : length (partBytes c) ≤ 249 = omega (arith, encode-length c, at-most-254 c (sized c (record { id = t .id-long; prints = t .many }) f)) in
     let I : List ℕ = idBytes (c .hasid) (c .id) in
     let W : List ℕ = videoBytes (c .video) in
     let A : List ℕ = audioBytes (c .count) (c .prints) in

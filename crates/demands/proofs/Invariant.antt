@@ -311,6 +311,13 @@ right u l es t o c =
     (right-by-parts u l es (t .programme .picture) (t .programme .counter) (t .programme .place) (t .fingerprints)
     (record { settings = refl; picture = o .picture; voices = o .voices; counter = o .counter; place = o .place }) c)
 
+-- what the session would pack is what the history says
+pub packs-said : (u : Setup) → Listed u → (es : List Event) (t : Session) → Holds u es t → (id : List ℕ) → contentsOf t id ≡ contentsSaid u es id
+packs-said u l es t o id =
+    subst (λ (x : Session). contentsOf x id ≡ contentsSaid u es id) (same-parts u t (o .settings))
+    (contents-are u l es (t .programme .picture) (t .programme .counter) (t .programme .place) (t .fingerprints)
+    (record { settings = refl; picture = o .picture; voices = o .voices; counter = o .counter; place = o .place }) id)
+
 -- Setup leaves what no event at all leaves
 pub begun-holds : (u : Setup) → accepted u ≡ true → Holds u [] (begun u)
 unfolding begun setupOf accepted setUpWith freshFingerprints lines waiting samples made sounded bitsPacked

@@ -1,10 +1,11 @@
--- The theorems: the three demands, frames, figures, an instant that is a block, wrong programs; and the lemmas that they stand on.
+-- The theorems: the three demands, frames, figures, an instant that is a block, how long a container is, wrong programs; and the lemmas that they stand on.
 pub mod Demand1
 pub mod Demand2
 pub mod Demand3
 pub mod Frames
 pub mod Figures
 pub mod AsBlock
+pub mod Sizes
 pub mod Wrong
 pub mod Contracts
 pub mod Runs

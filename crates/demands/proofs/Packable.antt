@@ -37,9 +37,10 @@ use Rattle.container.specs.declared.Print as container
 use Rattle.container.specs.declared.Contents.{Contents}
 use Rattle.container.specs.Contents.{blankPrint}
 use Rattle.container.specs.Bytes.{encode}
+use Rattle.container.specs.Sizes.{Sized}
 use Rattle.container.specs.Writing.{allZero, idReadable, videoReadable, printReadable, printBlank, printsReadable, readable, contentsNumber}
 use Rattle.container.proofs.Readable.{readable-fits}
-use Rattle.container.proofs.Bytes.{Shaped, parts-at-most, encode-length}
+use Rattle.container.proofs.Bytes.{Shaped, sized, at-most-254}
 use Rattle.container_laws.specs.Typed.{TypedPrint, TypedPrints, TypedVideo, Typed}
 use Rattle.session.specs.Fingerprints.{allListed, withBlanks}
 use Rattle.session.specs.Packing.{idOf}
@@ -143,7 +144,7 @@ id-readable id = go (eqb (length id) 20)
     go true = refl
     go false = refl
 
-id-long : (id : List ℕ) → length (idOf id) ≡ 20
+pub id-long : (id : List ℕ) → length (idOf id) ≡ 20
 unfolding idOf
 id-long id = chosen (λ (x : List ℕ). length x ≡ 20) (eqb (length id) 20) _ _ (λ e. eqb-true _ _ e) (λ _. refl)
 
@@ -295,11 +296,12 @@ module _ (u : Setup) (l : Listed u) (es : List Event) where
   unfolding contentsSaid
   shaped id = record { id = id-long id; prints = prints-32 (audioAfter u (sounded u es) es) }
 
+  pub said-sized : (id : List ℕ) → Sized (contentsSaid u es id)
+  said-sized id = let c = contentsSaid u es id in sized c (shaped id) (readable-fits c (shaped id .prints) (said-passes id))
+
   -- neither 29 nor 13
   pub said-writes : (id : List ℕ) → contentsNumber (contentsSaid u es id) ≡ 0
   unfolding contentsNumber
   said-writes id =
       let c : Contents = contentsSaid u es id in
-      let f = readable-fits c (shaped id .prints) (said-passes id) in
-      let n = parts-at-most c (shaped id) f in
-      rw (said-passes id, le-leb (length (encode c)) 255 (omega (arith, encode-length c))) refl
+      rw (said-passes id, le-leb (length (encode c)) 255 (omega (arith, at-most-254 c (said-sized id)))) refl

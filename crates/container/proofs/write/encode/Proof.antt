@@ -9,20 +9,20 @@ use Rattle.laws.specs.Sums.{sum}
 use Rattle.laws.proofs.Lists.{sets-then}
 use Rattle.container.specs.declared.Contents.{Contents}
 use Rattle.container.specs.Bytes.{partBytes, flagByte, frontBytes, checkByte, encode}
-use Rattle.container.proofs.Bytes.{parts-at-most, front-length, encode-length}
+use Rattle.container.proofs.Bytes.{Shaped, front-length, encode-length, sized, at-most-254}
 use Rattle.container.proofs.Outcome.{head-last, take-front}
 use borrow.Author.Needs.{needs}
 use Rattle.container.proofs.write.encode.Statement.{statement}
 use Rattle.container.proofs.write.encode.Tie as tie
 
+shaped : (c : tie.Start) → Shaped (c .args .c)
+shaped c = record {
+  id = sym (length-map (c .args .c .id) _) ∙ c .good .0 .1 .1 .1 .1 .1 .0 .1 .0 .1;
+  prints = sym (length-map (c .args .c .prints) _) ∙ c .good .0 .1 .1 .1 .1 .1 .1 .1 .1 .0 .1 .0 .1;
+}
+
 small : (c : tie.Start) → length (partBytes (c .args .c)) ≤ 249
-small c =
-    parts-at-most (c .args .c)
-    (record {
-      id = sym (length-map (c .args .c .id) _) ∙ c .good .0 .1 .1 .1 .1 .1 .0 .1 .0 .1;
-      prints = sym (length-map (c .args .c .prints) _) ∙ c .good .0 .1 .1 .1 .1 .1 .1 .1 .1 .0 .1 .0 .1;
-    })
-    (c .pre .0)
+small c = omega (arith, encode-length (c .args .c), at-most-254 (c .args .c) (sized (c .args .c) (shaped c) (c .pre .0)))
 
 -- the parts and the header stand
 module _ (w : tie.After-copy-at) where
