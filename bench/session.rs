@@ -278,9 +278,6 @@ impl Session {
         size += if id.is_empty() { 0 } else { 21 };
         size += if self.shown.is_empty() { 0 } else { 1 + self.shown.len() };
         size += if audio { 1 + self.prints.len() * (2 + due) } else { 0 };
-        if size > 255 {
-            return Err(13);
-        }
         if out.len() < size {
             return Err(12);
         }
@@ -458,7 +455,7 @@ fn rust_instants(lent: &Floating, (rounds, instants): (usize, usize)) -> u64 {
             black_box(s.instant(k, i).unwrap());
             k = if k + 1 < count { k + 1 } else { 0 };
         });
-        let mut out = [0u8; 255];
+        let mut out = [0u8; 254];
         black_box(s.pack(&[], &mut out).unwrap());
         total = sum_in(total, &out);
     }

@@ -59,7 +59,7 @@ enum {
 /* Sizes in bytes. */
 enum {
     LIPSYNC_LINE_SIZE = 60,          /* a line sampled */
-    LIPSYNC_LARGEST_CONTAINER = 254,
+    LIPSYNC_LARGEST_CONTAINER = 254, /* header 4, ID 21, video 3, audio 225, checksum 1 */
     LIPSYNC_LARGEST_PACKET = 522,    /* the largest container's: 2 x 254 + 14 */
     LIPSYNC_FLAT_SIZE = 283          /* a container's contents, flat */
 };

@@ -30,11 +30,11 @@ instantsHeard last mix l s (suc n) = instantOf (instantsHeard last mix l s n) (t
 unfoldable pub allHeard : ℕ → ℕ → List Float → Session → Session
 allHeard count mix l s = cond (eqb count 0) s (instantsHeard (count - 1) mix l s (length l / mix))
 
--- a frame is filled and packed, with no ID, into 255 bytes that were zero
+-- a frame is filled and packed, with no ID, into 254 bytes that were zero
 unfoldable pub instantFrame : ℕ → ℕ → List ℕ → List Float → Turn → Turn
 instantFrame count mix line l t = record {
-  session = packOf (allHeard count mix l (bothFields line (t .session))) [] 255 .session;
-  sum = bytesIn (t .sum) (packOut (allHeard count mix l (bothFields line (t .session))) [] (replicate 255 0));
+  session = packOf (allHeard count mix l (bothFields line (t .session))) [] 254 .session;
+  sum = bytesIn (t .sum) (packOut (allHeard count mix l (bothFields line (t .session))) [] (replicate 254 0));
 }
 
 unfoldable pub instantTurns : List ℕ → ℕ → List ℕ → List Float → ℕ → Turn

@@ -190,7 +190,7 @@ pub extern "C" fn bench_pack(
     packed_again(ready, rounds, even)
 }
 
-// A frame with instants for each fingerprint, and its container, which fits in 255 bytes.
+// A frame with instants for each fingerprint, and its container, which fits in 254 bytes.
 fn instant_frame(t: Turn, count: usize, mix: u8, line: &[u8], values: &[f32]) -> Turn
     requires { ⌜ t .sum < 4294967296 ⌝ }
     ensures { λ r. ⌜ (r ≡ instantFrame count mix (now (line .entry)) (now (values .entry)) t) × (r .sum < 4294967296) ⌝ }
@@ -198,7 +198,7 @@ fn instant_frame(t: Turn, count: usize, mix: u8, line: &[u8], values: &[f32]) ->
     let s = t.session;
     let ready = both_fields(s, line);
     let heard = instants::all_heard(ready, count, mix, values);
-    let mut out = [0u8; 255];
+    let mut out = [0u8; 254];
     let packed = session::pack(heard, &line[..0], &mut out);
     let sum = bytes_in(t.sum, &out);
     let next = packed.session;

@@ -1,13 +1,11 @@
 -- Laws of writing: the header stored after the parts that it counts, and the call's outcome in each case.
 use Prim.Native.Nat.{ℕ, _+_, _≤_, _<_}
-use mathlib.Core.List.{List, [], _∷_, _++_, append-assoc}
-use mathlib.Core.Path.{_≡_, refl, sym, ap, _∙_}
-use mathlib.Core.Bool.{Bool, true, false}
+use mathlib.Core.List.{List, _++_, append-assoc}
+use mathlib.Core.Path.{_≡_, refl, sym, _∙_}
+use mathlib.Core.Bool.{true, false}
 use native.Mathlib.Omega.{arith}
-use native.Mathlib.Nat.{zero-add}
 use lib.ListN.{length, take, drop, length-append}
 use lib.Seq.{sets, sets-eq, length-sets, take-at, drop-at, length-take-le}
-use borrow.Author.Tests.{le-leb, lt-leb}
 use Rattle.laws.specs.Calls.{over}
 use Rattle.laws.proofs.Lists.{sets-over}
 use Rattle.laws.proofs.Calls.{done, told-refused, told-short, told-ok}
@@ -42,14 +40,10 @@ module _ (c : Contents) (out : List ℕ) where
   write-29 e = rw e (told-refused 29 (encode c) out (λ z. omega (arith, z)))
 
   module _ (f : readable c ≡ true) (size : ℕ) (l : size ≡ length (encode c)) where
-    pub write-13 : 255 < size → Outcome c out 13 0 out
+    pub write-12 : length out < size → Outcome c out 12 0 out
     unfolding writeDone writeOut writeNumber contentsNumber
-    write-13 h = rw (f, lt-leb (length (encode c)) 255 (omega arith)) (told-refused 13 (encode c) out (λ z. omega (arith, z)))
+    write-12 h = rw f (told-short 0 (encode c) out refl (omega arith))
 
-    pub write-12 : size ≤ 255 → length out < size → Outcome c out 12 0 out
+    pub write-0 : size ≤ length out → Outcome c out 0 size (over (encode c) out)
     unfolding writeDone writeOut writeNumber contentsNumber
-    write-12 h k = rw (f, le-leb (length (encode c)) 255 (omega arith)) (told-short 0 (encode c) out refl (omega arith))
-
-    pub write-0 : size ≤ 255 → size ≤ length out → Outcome c out 0 size (over (encode c) out)
-    unfolding writeDone writeOut writeNumber contentsNumber
-    write-0 h k = rw (l, f, le-leb (length (encode c)) 255 (omega arith)) (told-ok 0 (encode c) out refl (omega arith))
+    write-0 h = rw (l, f) (told-ok 0 (encode c) out refl (omega arith))

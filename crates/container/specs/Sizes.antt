@@ -1,5 +1,5 @@
 -- How long a container is: the sum of its parts, each with its largest size. "The largest parts, 4 + 21 + 3 + 225 + 1 bytes, make 254" (02, A7).
-use Prim.Native.Nat.{ℕ, _+_, _≤_}
+use Prim.Native.Nat.{_+_, _≤_}
 use mathlib.Core.Path.{_≡_}
 use lib.ListN.{length}
 use Rattle.container.specs.declared.Contents.{Contents}

@@ -1,8 +1,7 @@
--- Write (01, What a caller is told): 29 contents that no reading gives, 13 container above 255 bytes, 12 output too short.
+-- Write (01, What a caller is told): 29 contents that no reading gives, 12 output too short.
 use Prim.Native.Nat.{ℕ, zero, suc, _≤_, _<_}
-use mathlib.Core.Path.{_≡_}
 use mathlib.Core.List.{List, [], _∷_}
-use mathlib.Core.Bool.{Bool, true, false, cond, _&&_}
+use mathlib.Core.Bool.{Bool, true, cond, _&&_}
 use lib.ListN.{length, getD, drop}
 use lib.Dec.{leb, eqb}
 use Rattle.laws.specs.Calls.{unless, roomNumber, doneWith, outWith}
@@ -57,9 +56,9 @@ readable c =
     && (leb (c .count) 32
     && printsReadable (c .count) (c .prints))))
 
--- 29, then 13
+-- 29
 unfoldable pub contentsNumber : Contents → ℕ
-contentsNumber c = unless (readable c) 29 (unless (leb (length (encode c)) 255) 13 0)
+contentsNumber c = unless (readable c) 29 0
 
 -- then 12
 unfoldable pub writeNumber : Contents → ℕ → ℕ

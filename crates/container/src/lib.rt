@@ -116,7 +116,7 @@ pub fn read_container(bytes: &[u8]) -> Reading
     read::read_parts(bytes[1], bytes[3], &bytes[4..end])
 }
 
-// Write: 29, 13, 12.
+// Write: 29, 12.
 pub fn write_container(contents: Contents, out: &mut [u8]) -> Done
     ensures { λ r. ⌜ (r ≡ writeDone contents (length (now (out .entry)))) × (now (out .exit) ≡ writeOut contents (now (out .entry))) ⌝ }
 {
@@ -126,14 +126,8 @@ pub fn write_container(contents: Contents, out: &mut [u8]) -> Done
             written: 0,
         };
     }
-    let mut bytes = [0u8; 256];
+    let mut bytes = [0u8; 254];
     let size = write::encode(contents, &mut bytes);
-    if 255 < size {
-        return Done {
-            number: 13,
-            written: 0,
-        };
-    }
     if out.len() < size {
         return Done {
             number: 12,

@@ -122,8 +122,8 @@ fn flag_byte(c: Contents) -> u8
 
 // The parts first, from place 4 on, then the header that counts them, then the checksum.
 pub(crate) fn encode(c: Contents, out: &mut [u8]) -> usize
-    requires { ⌜ Fits c ⌝ ∗ ⌜ 256 ≤ length (now out) ⌝ }
-    ensures { λ r. ⌜ (r ≡ length (bytes.encode c)) × (now (out .exit) ≡ sets (now (out .entry)) 0 (bytes.encode c)) ⌝ }
+    requires { ⌜ Fits c ⌝ ∗ ⌜ 254 ≤ length (now out) ⌝ }
+    ensures { λ r. ⌜ (r ≡ length (bytes.encode c)) × (r ≤ 254) × (now (out .exit) ≡ sets (now (out .entry)) 0 (bytes.encode c)) ⌝ }
 {
     let end = write_parts(c, out, 4);
     let head = [0u8, c.counter, (end - 2) as u8, flag_byte(c)];

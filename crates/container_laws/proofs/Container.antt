@@ -1,13 +1,13 @@
 -- The theorems about containers: both round trips (demand 2), what 29 means, and the largest container.
 use Prim.Native.Nat.{ℕ, _+_, _≤_}
-use mathlib.Core.List.{List, [], _∷_}
+use mathlib.Core.List.{List}
 use mathlib.Core.Path.{_≡_, refl, ap, sym, subst, _∙_}
 use mathlib.Core.Bool.{Bool, true, false, cond}
 use mathlib.Core.Logic.{_↔_}
 use native.Mathlib.Omega.{arith}
 use lib.ListN.{length, take, replicate}
-use lib.Dec.{leb, ltb, eqb}
-use borrow.Author.Tests.{le-leb}
+use lib.Dec.{ltb, eqb}
+use borrow.Author.Tests.{le-ltb}
 use Rattle.laws.specs.Bytes.{Bytes}
 use Rattle.laws.specs.Calls.{over, roomNumber, doneWith}
 use Rattle.laws.specs.Sums.{sum}
@@ -34,7 +34,7 @@ use Rattle.container_laws.proofs.There.{read-as-written}
 use Rattle.container_laws.proofs.Gives.{reading-readable}
 use Rattle.container_laws.proofs.Sizes.{accepted-sized, encode-bytes}
 
--- contents that pass 29 and 13 are readable
+-- contents that pass 29 are readable
 passed : (c : Contents) → contentsNumber c ≡ 0 → readable c ≡ true
 unfolding contentsNumber
 passed c e = past (readable c) 29 _ e (omega arith) .0
@@ -53,12 +53,11 @@ is-29 c room e = rw e
 -- 29 comes only from contents that are not readable
 not-29 : (c : Contents) (room : ℕ) → readable c ≡ true → writeDone c room .number ≡ 29 → ⊥
 unfolding writeDone writeNumber doneWith roomNumber contentsNumber
-not-29 c room f e = go (leb (length (encode c)) 255) (ltb room (length (encode c))) (rw f at e)
+not-29 c room f e = go (ltb room (length (encode c))) (rw f at e)
   where
-    go : (t u : Bool) → _≡_ {A = ℕ} (cond (eqb (cond t 0 13) 0) (cond u 12 0) (cond t 0 13)) 29 → ⊥
-    go true true h = omega (arith, h)
-    go true false h = omega (arith, h)
-    go false u h = omega (arith, h)
+    go : (t : Bool) → _≡_ {A = ℕ} (cond t 12 0) 29 → ⊥
+    go true h = omega (arith, h)
+    go false h = omega (arith, h)
 
 -- what an accepted reading of these contents is
 abbrev pub says : Contents → Reading
@@ -74,18 +73,22 @@ sized c t e = bytes.sized c (record { id = t .id-long; prints = t .many }) (read
 pub at-most-254 : (c : Contents) → Typed c → readable c ≡ true → length (encode c) ≤ 4 + 21 + 3 + 225 + 1
 at-most-254 c t e = bytes.at-most-254 c (sized c t e)
 
--- so 13 never comes
-pub never-13 : (c : Contents) (room : ℕ) → Typed c → writeDone c room .number ≡ 13 → ⊥
+-- 12 comes only to a buffer shorter than the container,
+pub not-12 : (c : Contents) (room : ℕ) → length (encode c) ≤ room → writeDone c room .number ≡ 12 → ⊥
 unfolding writeDone writeNumber doneWith roomNumber contentsNumber
-never-13 c room t = go (readable c) refl
+not-12 c room h = rw (le-ltb room (length (encode c)) h) (go (readable c))
   where
-    go : (r : Bool) → readable c ≡ r → writeDone c room .number ≡ 13 → ⊥
-    go true e z = short (ltb room (length (encode c))) (rw (e, le-leb (length (encode c)) 255 (omega (arith, at-most-254 c t e))) at z)
-      where
-        short : (u : Bool) → _≡_ {A = ℕ} (cond u 12 0) 13 → ⊥
-        short true h = omega (arith, h)
-        short false h = omega (arith, h)
-    go false e z = omega (arith, rw e at z)
+    go : (t : Bool) → _≡_ {A = ℕ} (cond (eqb (cond t 0 29) 0) 0 (cond t 0 29)) 12 → ⊥
+    go true e = omega (arith, e)
+    go false e = omega (arith, e)
+
+-- so never to one of 254 bytes
+pub room-enough : (c : Contents) (room : ℕ) → Typed c → 254 ≤ room → writeDone c room .number ≡ 12 → ⊥
+room-enough c room t h = go (readable c) refl
+  where
+    go : (r : Bool) → readable c ≡ r → writeDone c room .number ≡ 12 → ⊥
+    go true e z = not-12 c room (omega (arith, at-most-254 c t e)) z
+    go false e z = omega (arith, z, is-29 c room e)
 
 -- an accepted container has 5 to 254 bytes
 pub accepted-size : (s : List ℕ) → Bytes s → reading s .number ≡ 0 → (5 ≤ length s) × (length s ≤ 254)
@@ -98,7 +101,7 @@ pub rewritten : (s out : List ℕ) → Bytes s → reading s .number ≡ 0 → l
     → (done 0 (length s) ≡ writeDone (reading s .contents) (length out)) × (over s out ≡ writeOut (reading s .contents) out)
 rewritten s out b e room =
     let same = written-again s b e in
-    let w = write-0 (reading s .contents) out (reading-readable s b e) (length s) (ap length (sym same)) (omega (arith, accepted-size s b e .1)) room in
+    let w = write-0 (reading s .contents) out (reading-readable s b e) (length s) (ap length (sym same)) room in
     (w .0, ap (λ (l : List ℕ). over l out) (sym same) ∙ w .1)
 
 -- "each one written reads back as the same contents"

@@ -1,10 +1,9 @@
 -- How many bytes an accepted container has at most, and that what is written are bytes.
 use Prim.Native.Nat.{ℕ, zero, suc, _+_, _-_, _*_, _/_, _%_, _≤_, _<_}
 use mathlib.Core.List.{List, [], _∷_, _++_}
-use mathlib.Core.Path.{_≡_, refl, ap, sym, _∙_}
-use mathlib.Core.Bool.{Bool, true, false, cond, _&&_}
+use mathlib.Core.Path.{_≡_, refl, ap}
+use mathlib.Core.Bool.{Bool, true, false, cond}
 use native.Mathlib.Omega.{arith}
-use native.Mathlib.Nat.{not-suc-le-zero}
 use lib.ListN.{length, getD, take, drop, length-append, length-drop, length-replicate}
 use lib.Seq.{length-take-le}
 use lib.Dec.{leb, eqb}
@@ -21,13 +20,13 @@ use Rattle.container.specs.declared.AudioPart.{AudioPart}
 use Rattle.container.specs.declared.Contents.{Contents}
 use Rattle.container.specs.Bytes.{idBytes, videoBytes, printBytes, runBytes, audioBytes, partBytes, videoFlag, audioFlag, flagByte, frontBytes, checkByte, encode}
 use Rattle.container.specs.Parts.{idPart, runOf, audioOf, audioPart}
-use Rattle.container.specs.Reading.{idIn, videoIn, audioIn, middle, reading}
+use Rattle.container.specs.Reading.{idIn, videoIn, middle, reading}
 use Rattle.container.specs.Writing.{printReadable, printsReadable, readable}
 use Rattle.container.proofs.Runs.{run-length}
-use Rattle.container.proofs.Readable.{Passes, passes, print-fits, readable-fits}
+use Rattle.container.proofs.Readable.{passes, print-fits, readable-fits}
 use Rattle.container.proofs.Bytes.{Shaped, encode-length, sized, at-most-254}
 use Rattle.container_laws.specs.Typed.{TypedPrint, TypedPrints, TypedVideo, Typed}
-use Rattle.container_laws.proofs.Back.{Accepted, accepted-is, written-again}
+use Rattle.container_laws.proofs.Back.{accepted-is, written-again}
 use Rattle.container_laws.proofs.Gives.{reading-readable}
 
 -- ---- what was read has arrays of the lengths that the types give, and is as long as its parts

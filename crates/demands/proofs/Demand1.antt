@@ -18,12 +18,12 @@ use Rattle.packet.specs.Reading as packets
 use Rattle.host.specs.Host as host
 use Rattle.session.specs.declared.Session.{Session}
 use Rattle.session.specs.Session.{emptySession, setupOf}
-use Rattle.demands.specs.Calls.{Setup, Call, pack, Answer, Event, begun, answerOf, Run}
+use Rattle.demands.specs.Calls.{Setup, Call, Answer, Event, begun, answerOf, Run}
 use Rattle.demands.specs.Paper.{saidEmpty, accepted, paper}
 use Rattle.demands.specs.Demands.{Every, lent, Untouched, InRow}
 use Rattle.demands.proofs.Listed.{listed}
 use Rattle.demands.proofs.Invariant.{right}
-use Rattle.demands.proofs.Runs.{said-next, every, empty-answers, still-empty, next-answer}
+use Rattle.demands.proofs.Runs.{every, empty-answers, still-empty, next-answer}
 use Rattle.demands.proofs.Refusals as refusals
 
 -- ---- "changes nothing"
@@ -122,9 +122,3 @@ module _ (u : Setup) (a : accepted u ≡ true) where
       every u a _ (λ es t o c z.
       let e = right u (listed u a) es t o c .answer in
       refusals.not-1 c (answerOf t c .number) (rw e (refusals.in-row u (listed u a) es c)) z) r
-
-  -- no container is above 255 bytes: Pack never answers 13
-  pub never-13 : {es : List Event} {t : Session} → Run (begun u) es t → (id out : List ℕ) → answerOf t (pack id out) .number ≡ 13 → ⊥
-  never-13 {es} {t} r id out z =
-      let e = said-next u a r (pack id out) in
-      refusals.not-13 (answerOf t (pack id out) .number) (rw e (refusals.pack-number u (listed u a) es id out)) z

@@ -48,7 +48,7 @@ demand-2 u cs = as-paper u (runs.card-runs u cs) ∙ ap (transcript paper u) (ru
 
 -- ---- Round trips
 
--- Each container packed in any run reads back, as the contents that packing made: so each can be written (never 29, never 13) and is accepted by Read.
+-- Each container packed in any run reads back, as the contents that packing made: so each can be written (never 29) and is accepted by Read.
 pub every-container : (u : Setup) → accepted u ≡ true → {es : List Event} {t : Session} → Run (begun u) es t → Every (ReadsBack u) es
 every-container u a r = runs.every u a (ReadsBack u) (λ es t o. reads-back-right u a o) r
 

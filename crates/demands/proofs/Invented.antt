@@ -58,7 +58,7 @@ module _ (n : ℕ) {rate : ℕ} (a : accepted (hd rate (monos n)) ≡ true) (p :
     says : p (hd rate (monos n)) (T g cs) (pack [] room) ≡ packedAs (encode c)
     says = as-said p d (hd rate (monos n)) a cs (pack [] room) ∙ (pack-says g o ready ∙ ap (λ (x : Contents). packedAs (encode x)) contents-are)
 
-    pub byte-is : (i : ℕ) (x : Setup → ℕ) → i < 255 → Invents i x p → x (hd rate (monos n)) ≡ getD (over (encode c) room) i 0
+    pub byte-is : (i : ℕ) (x : Setup → ℕ) → i < 254 → Invents i x p → x (hd rate (monos n)) ≡ getD (over (encode c) room) i 0
     unfolding plain
     byte-is i x l f =
         let v = ap (λ (y : Contents). y .video) contents-are in
@@ -101,7 +101,7 @@ abbrev pub two-second : List ℕ
 two-second = over (encode (plain 5 2 1 (played 2))) room
 
 module _ (p : Program) (d : Demand2 p) where
-  module _ (i : ℕ) (l : i < 255) (x : Setup → ℕ) (f : Invents i x p) where
+  module _ (i : ℕ) (l : i < 254) (x : Setup → ℕ) (f : Invents i x p) where
     pub in-one-first : x u ≡ getD one-first i 0
     unfolding isWaiting
     in-one-first =

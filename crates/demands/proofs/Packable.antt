@@ -1,4 +1,4 @@
--- What document 01 says that a container holds can be written and read: it passes 29 and 13, and its values are as the types make them.
+-- What document 01 says that a container holds can be written and read: it passes 29, and its values are as the types make them.
 use Prim.Native.Nat.{ℕ, zero, suc, _+_, _-_, _*_, _%_, _^_, _≤_, _<_}
 use mathlib.Core.Path.{_≡_, refl, ap, _∙_}
 use mathlib.Core.Bool.{Bool, true, false, cond, _&&_}
@@ -34,13 +34,11 @@ use Rattle.sound.specs.Filter.{meanAfter, envelopeAfter, bitOf}
 use Rattle.fingerprint.specs.History.{upTo, bitAt, bitsFrom, fromBits, bytesFrom}
 use Rattle.fingerprint.proofs.Bits.{small-zeros}
 use Rattle.container.specs.declared.Print as container
-use Rattle.container.specs.declared.Contents.{Contents}
 use Rattle.container.specs.Contents.{blankPrint}
-use Rattle.container.specs.Bytes.{encode}
 use Rattle.container.specs.Sizes.{Sized}
 use Rattle.container.specs.Writing.{allZero, idReadable, videoReadable, printReadable, printBlank, printsReadable, readable, contentsNumber}
 use Rattle.container.proofs.Readable.{readable-fits}
-use Rattle.container.proofs.Bytes.{Shaped, sized, at-most-254}
+use Rattle.container.proofs.Bytes.{Shaped, sized}
 use Rattle.container_laws.specs.Typed.{TypedPrint, TypedPrints, TypedVideo, Typed}
 use Rattle.session.specs.Fingerprints.{allListed, withBlanks}
 use Rattle.session.specs.Packing.{idOf}
@@ -299,9 +297,7 @@ module _ (u : Setup) (l : Listed u) (es : List Event) where
   pub said-sized : (id : List ℕ) → Sized (contentsSaid u es id)
   said-sized id = let c = contentsSaid u es id in sized c (shaped id) (readable-fits c (shaped id .prints) (said-passes id))
 
-  -- neither 29 nor 13
+  -- not 29
   pub said-writes : (id : List ℕ) → contentsNumber (contentsSaid u es id) ≡ 0
   unfolding contentsNumber
-  said-writes id =
-      let c : Contents = contentsSaid u es id in
-      rw (said-passes id, le-leb (length (encode c)) 255 (omega (arith, at-most-254 c (said-sized id)))) refl
+  said-writes id = rw (said-passes id) refl

@@ -1,7 +1,7 @@
 -- A refusal changes nothing, whatever the session, and its number stands in document 01's row.
 use Prim.Native.Nat.{ℕ, _+_, _*_}
 use mathlib.Core.Path.{_≡_, refl, ap}
-use mathlib.Core.Bool.{Bool, true, false, cond, _&&_, _||_, not, or-true, false≢true}
+use mathlib.Core.Bool.{Bool, true, false, cond, _&&_, _||_, not, false≢true}
 use mathlib.Core.List.{List, [], _∷_, _++_}
 use lib.Dec.{leb, ltb, eqb}
 use lib.ListN.{length, getD, drop}
@@ -213,7 +213,7 @@ module _ (u : Setup) (l : Listed u) (es : List Event) where
       m : ℕ
       m = getD (u .mixes) k 0
 
-  pub pack-number : (id out : List ℕ) → One (10 ∷ 11 ∷ 12 ∷ []) (said u es (pack id out) .number)
+  pack-number : (id out : List ℕ) → One (10 ∷ 11 ∷ 12 ∷ []) (said u es (pack id out) .number)
   unfolding said packedSaid readyNumber writeDone writeNumber doneWith roomNumber isOneOf
   pack-number id out =
       chosen (λ (a : Answer). P (a .number)) (eqb (readyNumber (isWaiting (waiting (u .format) es)) (length id)) 0) _ _
@@ -225,27 +225,16 @@ module _ (u : Setup) (l : Listed u) (es : List Event) where
       P : ℕ → Type 0
       P = One (10 ∷ 11 ∷ 12 ∷ [])
 
-  more-rows : (n : ℕ) → One (10 ∷ 11 ∷ 12 ∷ []) n → One (10 ∷ 11 ∷ 13 ∷ 12 ∷ []) n
-  unfolding isOneOf
-  more-rows n = go (eqb n 0) (eqb n 10) (eqb n 11) (eqb n 12)
-    where
-      go : (a b c d : Bool) → (a || (b || (c || (d || false)))) ≡ true → (a || (b || (c || (eqb n 13 || (d || false))))) ≡ true
-      go true b c d e = refl
-      go false true c d e = refl
-      go false false true d e = refl
-      go false false false true e = or-true (eqb n 13)
-      go false false false false e = absurd (false≢true e)
-
   pub in-row : (c : Call) → InRow es c (said u es c)
   unfolding said lineSaid numberSaid numbersOf isOneOf
   in-row (line n b) = line-number (u .format) (nextLine (u .format) (lines (u .format) es)) (isWaiting (waiting (u .format) es)) n (length b)
   in-row (sound k b) = sound-number k b
   in-row (instant k i) = instant-number k i
-  in-row (pack id out) = more-rows (said u es (pack id out) .number) (pack-number id out)
+  in-row (pack id out) = pack-number id out
   in-row video-restart = refl
   in-row audio-restart = refl
 
--- a number of a row is not 1, nor, if Pack's, 13
+-- a number of a row is not 1
 pub not-1 : (c : Call) (n : ℕ) → isOneOf n (0 ∷ numbersOf c) ≡ true → n ≡ 1 → ⊥
 unfolding isOneOf numbersOf
 not-1 (line k b) n e z = false≢true (rw z at e)
@@ -254,7 +243,3 @@ not-1 (instant k i) n e z = false≢true (rw z at e)
 not-1 (pack id out) n e z = false≢true (rw z at e)
 not-1 video-restart n e z = false≢true (rw z at e)
 not-1 audio-restart n e z = false≢true (rw z at e)
-
-pub not-13 : (n : ℕ) → isOneOf n (0 ∷ 10 ∷ 11 ∷ 12 ∷ []) ≡ true → n ≡ 13 → ⊥
-unfolding isOneOf
-not-13 n e z = false≢true (rw z at e)

@@ -1,15 +1,14 @@
--- Small runs, to hold wrong programs against: 720p at any rate with any mix types, frames of one and the same line, each packed into 255 bytes.
+-- Small runs, to hold wrong programs against: 720p at any rate with any mix types, frames of one and the same line, each packed into 254 bytes.
 -- Of any program that gives document 01's numbers: the histories after its calls.
 use Prim.Native.Nat.{ℕ, zero, suc, _+_, _*_, _%_, _≤_, _<_}
 use mathlib.Core.Path.{_≡_, refl, sym, ap, _∙_}
 use mathlib.Core.Bool.{Bool, true, false, cond, _&&_, not}
 use mathlib.Core.List.{List, [], _∷_, _++_}
 use native.Mathlib.Omega.{arith}
-use lib.Dec.{leb, eqb}
+use lib.Dec.{eqb}
 use lib.ListN.{length, getD, replicate, length-append, length-replicate}
-use borrow.Author.Tests.{eqb-true, eqb-false, eq-eqb, ne-eqb, le-leb, lt-leb, leb-true, le-ltb}
+use borrow.Author.Tests.{eqb-true, eqb-false, eq-eqb, ne-eqb, le-leb, lt-leb, le-ltb}
 use Rattle.laws.specs.Calls.{over, roomNumber, doneWith, outWith}
-use Rattle.laws.proofs.Tests.{past}
 use Rattle.rates.specs.Rates.{intervalOf}
 use Rattle.sampling.specs.Formats.{table, named, rowOf}
 use Rattle.sampling.specs.Samples.{pixels}
@@ -20,13 +19,14 @@ use Rattle.picture.proofs.Steps.{next-monitored}
 use Rattle.fingerprint.specs.State.{valuesOf}
 use Rattle.fingerprint.specs.Paper.{soundAnswer}
 use Rattle.container.specs.Bytes.{encode}
-use Rattle.container.specs.Writing.{readable, contentsNumber, writeNumber, writeDone, writeOut}
+use Rattle.container.proofs.Bytes.{at-most-254}
+use Rattle.container.specs.Writing.{writeNumber, writeDone, writeOut}
 use Rattle.session.specs.Fingerprints.{withBlanks}
 use Rattle.session.specs.Packing.{idOf, readyNumber}
 use Rattle.demands.specs.Calls.{Setup, Call, line, sound, pack, Answer, Event}
 use Rattle.demands.specs.Paper.{linesAt, lines, waitingAt, waiting, samplesAt, samples, madeAt, made, bytesDue, bitsPacked, everyHolds, audioAfter, soundedAt, sounded, printsSaid, audioSaid, contentsSaid, lineSaid, soundSaid, packedSaid, said, accepted, paper, Program, transcript}
 use Rattle.demands.proofs.Listed.{listed}
-use Rattle.demands.proofs.Packable.{said-writes}
+use Rattle.demands.proofs.Packable.{said-sized, said-writes}
 
 abbrev pub hd : ℕ → List ℕ → Setup
 hd rate mixes = record { format = 2; rate = rate; mixes = mixes }
@@ -39,11 +39,11 @@ pub record Follows (rate : ℕ) (mixes : List ℕ) (p : Program) : Type 0 where
 
 -- room for any container
 unfoldable pub room : List ℕ
-room = replicate 255 0
+room = replicate 254 0
 
-pub room-length : length room ≡ 255
+pub room-length : length room ≡ 254
 unfolding room
-room-length = length-replicate {A = ℕ} 255 0
+room-length = length-replicate {A = ℕ} 254 0
 
 -- an answer with these bytes in it
 abbrev pub packedAs : List ℕ → Answer
@@ -98,11 +98,8 @@ module _ (ls : List (List ℕ)) (k : ℕ) (small : k < 16) (at : length ls % 16 
       go false e = let z = eqb-false k 15 e in ne-eqb (suc (length ls) % 16) 0 (omega arith)
 
 -- ---- Pack: every container fits
-fits : (u : Setup) → accepted u ≡ true → (es : List Event) → length (encode (contentsSaid u es [])) ≤ 255
-unfolding contentsNumber
-fits u a es =
-    let n = said-writes u (listed u a) es [] in
-    leb-true _ _ (past (leb (length (encode (contentsSaid u es []))) 255) 13 0 (past (readable (contentsSaid u es [])) 29 _ n (omega arith) .1) (omega arith) .0)
+fits : (u : Setup) → accepted u ≡ true → (es : List Event) → length (encode (contentsSaid u es [])) ≤ 254
+fits u a es = at-most-254 (contentsSaid u es []) (said-sized u (listed u a) es [])
 
 -- ---- the histories after the calls cs
 module _ {rate : ℕ} {mixes : List ℕ} {p : Program} (g : Follows rate mixes p) where
@@ -165,7 +162,7 @@ module _ {rate : ℕ} {mixes : List ℕ} {p : Program} (g : Follows rate mixes p
     pack-says e =
         let c = contentsSaid u (T cs) [] in
         let n = said-writes u (listed u (g .accepts)) (T cs) [] in
-        rw (o .waits, e, n, room-length, le-ltb 255 (length (encode c)) (fits u (g .accepts) (T cs))) refl
+        rw (o .waits, e, n, room-length, le-ltb 254 (length (encode c)) (fits u (g .accepts) (T cs))) refl
 
     pub packs : isWaiting w ≡ true → p u (T cs) (pack [] room) .number ≡ 0
     packs e = number-is cs (pack [] room) ∙ ap (λ (a : Answer). a .number) (pack-says e)

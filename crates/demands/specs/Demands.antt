@@ -52,7 +52,7 @@ unfoldable pub numbersOf : Call → List ℕ
 numbersOf (line n b) = 2 ∷ 3 ∷ 4 ∷ 5 ∷ []
 numbersOf (sound k b) = 7 ∷ 8 ∷ 9 ∷ []
 numbersOf (instant k i) = 7 ∷ 14 ∷ 9 ∷ []
-numbersOf (pack id out) = 10 ∷ 11 ∷ 13 ∷ 12 ∷ []
+numbersOf (pack id out) = 10 ∷ 11 ∷ 12 ∷ []
 numbersOf video-restart = []
 numbersOf audio-restart = []
 

@@ -149,7 +149,7 @@ instantSaid u es k i =
     cond (leb (length (u .mixes)) k) 7
     (instantAnswer (getD (u .mixes) k 0) (intervalOf (u .rate)) (samples es (getD (u .mixes) k 0) k) (bitsPacked (u .rate) (sounded u es)) i)
 
--- "10 no ready frame; 11 ID length neither 0 nor 20" (`readyNumber`); then what Write answers for these contents, "13; 12" being its
+-- "10 no ready frame; 11 ID length neither 0 nor 20" (`readyNumber`); then what Write answers for these contents, "12" being its
 unfoldable pub packedSaid : ℕ → Contents → List ℕ → Answer
 packedSaid number c out =
     cond (eqb number 0)

@@ -302,7 +302,7 @@ fn pack_number(s: Session, given: usize) -> u8
     if given == 20 { 0 } else { 11 }
 }
 
-// Pack: 1 for an empty session, 10, 11, 13, 12.
+// Pack: 1 for an empty session, 10, 11, 12.
 pub fn pack(s: Session, id: &[u8], out: &mut [u8]) -> Packed
     ensures { λ r. ⌜ (r ≡ packOf s (now (id .entry)) (length (now (out .entry)))) × (now (out .exit) ≡ packOut s (now (id .entry)) (now (out .entry))) ⌝ }
 {

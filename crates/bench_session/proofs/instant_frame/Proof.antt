@@ -41,8 +41,8 @@ returns c =
     let hear : Session → Session = allHeard (a .count) (a .mix) (a .values .now) in
     let ready : Session = hear (bothFields (a .line .now) (a .t .session)) in
     let full = c .before .before .before .before .before .before .before .all-heard .ensures ∙ ap hear (c .before .before .before .before .before .before .before .before .both-fields .ensures) in
-    let packed : p .result ≡ packOf ready [] 255 = p .ensures .0 ∙ ap (λ (s : Session). packOf s [] 255) full in
-    let left : p .last .1 .1 .0 ≡ packOut ready [] (replicate 255 0) = p .ensures .1 ∙ ap (λ (s : Session). packOut s [] (replicate 255 0)) full in (
+    let packed : p .result ≡ packOf ready [] 254 = p .ensures .0 ∙ ap (λ (s : Session). packOf s [] 254) full in
+    let left : p .last .1 .1 .0 ≡ packOut ready [] (replicate 254 0) = p .ensures .1 ∙ ap (λ (s : Session). packOut s [] (replicate 254 0)) full in (
       ap₂ (λ (s : Session) (n : ℕ). record { session = s; sum = n }) (ap (λ (k : Packed). k .session) packed) (c .before .bytes-in .ensures .0 ∙ ap (bytesIn (a .t .sum)) left),
       c .before .bytes-in .ensures .1,
     )

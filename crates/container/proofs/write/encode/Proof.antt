@@ -1,14 +1,14 @@
 -- `container::write::encode` meets its contract: the parts, then the header that counts them, then the checksum.
-use Prim.Native.Nat.{ℕ, _+_, _-_, _%_, _≤_, _<_}
+use Prim.Native.Nat.{ℕ, _+_, _-_, _%_, _≤_}
 use mathlib.Core.Path.{_≡_, refl, sym, ap, _∙_}
-use mathlib.Core.List.{List, [], _∷_, _++_}
+use mathlib.Core.List.{List, [], _∷_}
 use native.Mathlib.Omega.{arith}
 use lib.ListN.{length, take, length-set, length-map}
 use lib.Seq.{sets, length-sets}
 use Rattle.laws.specs.Sums.{sum}
 use Rattle.laws.proofs.Lists.{sets-then}
 use Rattle.container.specs.declared.Contents.{Contents}
-use Rattle.container.specs.Bytes.{partBytes, flagByte, frontBytes, checkByte, encode}
+use Rattle.container.specs.Bytes.{partBytes, frontBytes, checkByte, encode}
 use Rattle.container.proofs.Bytes.{Shaped, front-length, encode-length, sized, at-most-254}
 use Rattle.container.proofs.Outcome.{head-last, take-front}
 use borrow.Author.Needs.{needs}
@@ -53,7 +53,7 @@ module _ (w : tie.After-copy-at) where
       ∙ ap (λ (x : ℕ). sets out 0 (0 ∷ contents .counter ∷ x ∷ w .before .before .before .flag-byte .result ∷ partBytes contents)) counted
       ∙ ap (λ (x : ℕ). sets out 0 (0 ∷ contents .counter ∷ (length (partBytes contents) + 2) ∷ x ∷ partBytes contents)) (w .before .before .before .flag-byte .ensures)
 
-  long : 256 ≤ length stored
+  long : 254 ≤ length stored
   long = omega (arith, ap length front-is ∙ length-sets (start .args .out .now) 0 (frontBytes contents), start .pre .1)
 
   end-within : end ≤ 253
@@ -115,6 +115,7 @@ returns c =
     let z : (256 - c .byte-sum .result) % 256 ≡ checkByte (sum front) =
     ap (λ (x : ℕ). (256 - x) % 256) (c .byte-sum .ensures ∙ ap (λ (l : List ℕ). sum l % 256) (front-back w)) in (
       omega (arith, end-is w, front-length (contents w), encode-length (contents w)),
+      omega (arith, end-within w),
       sets-then (start w .args .out .now) (stored w) _ front (checkByte (sum front) ∷ []) 0 (end w) (front-is w) (omega (arith, end-is w)) (rw z),
     )
 
