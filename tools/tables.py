@@ -21,6 +21,7 @@ Mix = collections.namedtuple("Mix", "type name channels layout")
 ANY = tuple(range(2, 12))
 MONITORED = 16  # lines of a field
 PIXELS = 60  # of a monitored line
+LARGEST = 4 + 21 + 3 + 225 + 1  # bytes of a container: 254 (02, A7)
 SOUND_RATE = 48000
 
 # 01, "Video: formats and the 960 bytes". Active lines: ST 125 (525 and 625 lines), ST 296, ST 274, ST 2048-2; 2160 rows at twice the
@@ -56,7 +57,7 @@ RATES = {
 # The layout is ffmpeg's name of the channels; its 5.0 comes as L, R, C, Ls, Rs.
 MIXES = {1: Mix(1, "mono", 1, "mono"), 2: Mix(2, "stereo", 2, "stereo"), 5: Mix(5, "5.1", 5, "5.0")}
 
-# 01, "What a caller is told"; 14: 02, A3.
+# 01, "What a caller is told", as 02's A3 (14) and A7 leave it.
 REFUSALS = {
     1: "format, rate pairing, fingerprint count or mix type not listed, or a session that is not set up",
     2: "line length not 2 x width",
@@ -69,7 +70,6 @@ REFUSALS = {
     10: "no ready frame",
     11: "ID length neither 0 nor 20",
     12: "output too short",
-    13: "container above 255 bytes",
     14: "instant with a NaN, or of another kind than the fingerprint's mix type",
     20: "container under 5 bytes",
     21: "container's version not 0",
@@ -91,8 +91,7 @@ REFUSALS = {
 }
 
 READING = tuple(range(20, 29))
-# 01, "What a caller is told", and 02, A3 (instant): the numbers of each call as the feed names it, 0 for success. 13 is left out: no container is
-# above 254 bytes.
+# 01, "What a caller is told", as 02's A3 (instant) and A7 (pack, write) leave it: the numbers of each call as the feed names it, 0 for success.
 NUMBERS = {
     "setup": (0, 1),
     "line": (0, 1, 2, 3, 4, 5),

@@ -4,7 +4,6 @@ use crate::formats::Rate;
 
 pub const MOST_FINGERPRINTS: usize = 32;
 pub const ID_SIZE: usize = 20;
-const MOST_BYTES: usize = 255;
 
 #[derive(Debug, Clone, Copy, PartialEq, Eq)]
 pub enum VideoValues {
@@ -194,15 +193,12 @@ pub fn mend_checksum(bytes: &mut [u8]) {
     }
 }
 
-/// Numbers 29, 13 and 12, in order. The layout is one to one, so contents that some reading gives are exactly those
+/// Numbers 29 and 12, in order. The layout is one to one, so contents that some reading gives are exactly those
 /// that come back when their own layout is read.
 pub fn write(contents: &Contents, room: usize) -> Result<Vec<u8>, u8> {
     let bytes = lay_out(contents);
     if read(&bytes).as_ref() != Ok(contents) {
         return Err(29);
-    }
-    if bytes.len() > MOST_BYTES {
-        return Err(13);
     }
     if bytes.len() > room {
         return Err(12);
@@ -213,6 +209,7 @@ pub fn write(contents: &Contents, room: usize) -> Result<Vec<u8>, u8> {
 #[cfg(test)]
 mod tests {
     use super::*;
+    use crate::formats::RATES;
 
     fn mended(body: &[u8]) -> Vec<u8> {
         let mut bytes = body.to_vec();
@@ -279,14 +276,49 @@ mod tests {
         }
     }
 
-    /// The largest container is 254 bytes, so that 13 never comes.
+    /// Contents with these parts: fingerprints to this number, of so many bytes each.
+    fn with_parts(rate: u8, id: bool, video: VideoValues, fingerprints: usize, size: usize) -> Contents {
+        let mut contents = Contents::bare(255, rate);
+        contents.id_present = id;
+        contents.id.fill(if id { 255 } else { 0 });
+        contents.video = video;
+        contents.audio_count = fingerprints as u8;
+        let mut place = AudioPlace { id: 31, mix_type: 5, count: size as u8, bytes: [0; 5] };
+        place.bytes[..size].fill(255);
+        contents.audio[..fingerprints].fill(place);
+        contents
+    }
+
+    /// 4 + 21 + 3 + 225 + 1 bytes make 254 (02, A7).
     #[test]
     fn the_largest_container() {
-        let mut largest = Contents::bare(0, 5);
-        largest.id_present = true;
-        largest.video = VideoValues::Two(0, 0);
-        largest.audio_count = 32;
-        largest.audio = [AudioPlace { id: 0, mix_type: 1, count: 5, bytes: [255; 5] }; 32];
-        assert_eq!(write(&largest, 4096).map(|bytes| bytes.len()), Ok(254));
+        let (none, two) = (VideoValues::None, VideoValues::Two(240, 240));
+        let size = |id, video, fingerprints| lay_out(&with_parts(5, id, video, fingerprints, 5)).len();
+        let without_parts = size(false, none, 0);
+        assert_eq!(without_parts, 4 + 1);
+        assert_eq!(size(true, none, 0) - without_parts, 21);
+        assert_eq!(size(false, two, 0) - without_parts, 3);
+        assert_eq!(size(false, none, 32) - without_parts, 225);
+        let largest = with_parts(5, true, two, 32, 5);
+        assert_eq!(write(&largest, 253), Err(12));
+        let bytes = write(&largest, 254).unwrap();
+        assert_eq!((bytes.len(), read(&bytes)), (254, Ok(largest)));
+    }
+
+    #[test]
+    fn no_contents_that_pass_29_are_longer_than_their_parts_or_254_bytes() {
+        let videos = [(VideoValues::None, 0), (VideoValues::One(240), 2), (VideoValues::Two(240, 240), 3)];
+        for (rate, (video, video_size)) in RATES.iter().flat_map(|rate| videos.map(|video| (rate.code, video))) {
+            for (id, id_size) in [(false, 0), (true, 21)] {
+                for (count, size) in (0..=32).flat_map(|count| (1..=5).map(move |size| (count, size))) {
+                    let audio_size = if count == 0 { 0 } else { 1 + count * (2 + size) };
+                    let parts = 4 + id_size + video_size + audio_size + 1;
+                    let passes = video_size < 3 || [5, 6, 7].contains(&rate);
+                    let written = write(&with_parts(rate, id, video, count, size), 4096).map(|bytes| bytes.len());
+                    assert_eq!(written, if passes { Ok(parts) } else { Err(29) });
+                    assert!(parts <= 254);
+                }
+            }
+        }
     }
 }

@@ -120,7 +120,7 @@ impl Running {
         contents
     }
 
-    /// Numbers 10, 11, 13, 12, in order; a refusal leaves the session as it was.
+    /// Numbers 10, 11, 12, in order; a refusal leaves the session as it was.
     fn pack(&mut self, id: &[u8], room: usize) -> Result<Vec<u8>, u8> {
         let fields = self.picture.ready().ok_or(10)?;
         if !id.is_empty() && id.len() != ID_SIZE {
@@ -211,6 +211,23 @@ mod tests {
         let running = session.0.as_ref().unwrap();
         assert_eq!(running.bytes_due(), 5);
         assert_eq!((running.sounds[0].held_bits(), running.sounds[1].held_bits()), (8, 0));
+    }
+
+    /// Two video values from the second frame on, where the cadence of 25 Hz asks for 5 bytes (02, A7).
+    #[test]
+    fn a_session_packs_the_largest_container() {
+        for format in [1, 3] {
+            let mut session = ready_session(format, 5, &[1; 32]);
+            (0..32).for_each(|k| session.sound(k, &vec![0; 2 * 50 * 8 * (4 + 5)]).unwrap());
+            assert_eq!(session.pack(&[7; 20], 4096).unwrap().len(), 4 + 21 + (1 + 32 * (2 + 4)) + 1);
+            run_frame(&mut session);
+            assert_eq!(session.pack(&[7; 20], 253), Err(12));
+            let container = session.pack(&[7; 20], 254).unwrap();
+            assert_eq!((container.len(), container[1], container[3]), (254, 1, 0x57));
+            let contents = container::read(&container).unwrap();
+            assert_eq!((contents.video, contents.audio_count), (VideoValues::Two(0, 0), 32));
+            assert!(contents.audio.iter().all(|place| place.count == 5));
+        }
     }
 
     #[test]

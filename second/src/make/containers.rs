@@ -5,8 +5,8 @@ use super::script::Script;
 use crate::container::{self, AudioPlace, Contents, VideoValues, ID_SIZE};
 use crate::feed::MOST_ROOM;
 
-fn audio_place(random: &mut Random) -> AudioPlace {
-    let count = 1 + random.below(5);
+/// A fingerprint of so many bytes.
+pub fn audio_place(random: &mut Random, count: usize) -> AudioPlace {
     let mut bytes = [0; 5];
     bytes[..count].copy_from_slice(&random.bytes(count));
     AudioPlace { id: random.below(32) as u8, mix_type: random.pick(&[1, 2, 5]), count: count as u8, bytes }
@@ -47,9 +47,17 @@ pub fn contents(random: &mut Random, wanted: Wanted) -> Contents {
     if wanted.audio || random.chance(60) {
         let count = audio_count(random);
         contents.audio_count = count as u8;
-        contents.audio[..count].fill_with(|| audio_place(random));
+        contents.audio[..count].fill_with(|| {
+            let size = 1 + random.below(5);
+            audio_place(random, size)
+        });
     }
     contents
+}
+
+/// The container of contents as a reading gives them.
+pub fn written(contents: &Contents) -> Vec<u8> {
+    container::write(contents, MOST_ROOM).expect("contents that a reading gives")
 }
 
 /// A container and where its parts begin; a part that is absent begins where the next one does.
@@ -62,7 +70,7 @@ struct Made {
 
 fn made(random: &mut Random, wanted: Wanted) -> Made {
     let contents = contents(random, wanted);
-    let bytes = container::write(&contents, MOST_ROOM).expect("contents that a reading gives");
+    let bytes = written(&contents);
     let video_at = if contents.id_present { 4 + 1 + ID_SIZE } else { 4 };
     let audio_at = video_at
         + match contents.video {

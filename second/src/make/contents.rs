@@ -3,8 +3,8 @@
 use super::containers::{self, Wanted};
 use super::random::Random;
 use super::script::Script;
-use crate::container::{self, Contents, VideoValues};
-use crate::feed::{FLAT_SIZE, MOST_ROOM};
+use crate::container::{Contents, VideoValues};
+use crate::feed::FLAT_SIZE;
 
 /// Where things lie in flat contents (FEED).
 const RATE: usize = 1;
@@ -68,20 +68,25 @@ fn damage_audio(random: &mut Random, flat: &mut [u8]) {
     }
 }
 
+/// Damage to four of ten.
+pub fn damage_some(random: &mut Random, flat: &mut [u8]) {
+    match random.below(10) {
+        0..=5 => {}
+        6 | 7 => damage_head(random, flat),
+        8 => damage_audio(random, flat),
+        _ => {
+            damage_audio(random, flat);
+            damage_head(random, flat);
+        }
+    }
+}
+
 fn any(random: &mut Random) -> Vec<u8> {
     if random.chance(3) {
         return vec![0; FLAT_SIZE];
     }
     let mut flat = flat(&containers::contents(random, Wanted::default()));
-    match random.below(10) {
-        0..=5 => {}
-        6 | 7 => damage_head(random, &mut flat),
-        8 => damage_audio(random, &mut flat),
-        _ => {
-            damage_audio(random, &mut flat);
-            damage_head(random, &mut flat);
-        }
-    }
+    damage_some(random, &mut flat);
     flat
 }
 
@@ -97,7 +102,7 @@ pub fn write(random: Random, _seed: u64) -> Vec<u8> {
 pub fn one(script: &mut Script) {
     let whole = containers::contents(&mut script.random, Wanted::default());
     let (size, flat) = if script.random.chance(50) {
-        (container::write(&whole, MOST_ROOM).map_or(5, |bytes| bytes.len()), flat(&whole))
+        (containers::written(&whole).len(), flat(&whole))
     } else {
         (20, any(&mut script.random))
     };

@@ -5,6 +5,7 @@ mod containers;
 mod contents;
 mod floats;
 mod instants;
+mod largest;
 mod lines;
 mod packets;
 mod picture;
@@ -25,7 +26,7 @@ const fn kind(name: &'static str, make: fn(Random, u64) -> Vec<u8>, says: &'stat
     Kind { name, says, make }
 }
 
-pub const KINDS: [Kind; 13] = [
+pub const KINDS: [Kind; 14] = [
     kind("setup", sessions::setup, "setups listed and not, calls on empty sessions"),
     kind("session", sessions::session, "sessions of every format and rate: all calls, in and out of order"),
     kind("picture", sessions::picture, "sessions of every format and rate: mostly lines and packs"),
@@ -33,6 +34,7 @@ pub const KINDS: [Kind; 13] = [
     kind("instants", instants::instants, "sound in floating point: every class of value and kind, aimed bits"),
     kind("long", sessions::long, "some 280 packs: the counter goes from 255 to 0, the cadence round and round"),
     kind("mixed", sessions::mixed, "a session with calls between that must not touch it"),
+    kind("largest", largest::largest, "interlaced sessions and contents of 254 bytes and near it"),
     kind("sample", lines::sample, "line sampling by itself"),
     kind("container", containers::container, "containers whole and damaged, read and written again"),
     kind("packet", packets::packet, "packets whole and damaged, containers wrapped"),

@@ -120,10 +120,14 @@ impl Script {
         }
     }
 
+    /// The container due now, with an ID of these bytes.
+    pub fn container_due(&self, id: &[u8]) -> Option<Vec<u8>> {
+        self.desk.session.clone().pack(id, MOST_ROOM).ok()
+    }
+
     /// How long the container due now would be, with an ID of so many bytes.
     pub fn container_size(&self, id_size: usize) -> usize {
-        let mut trial = self.desk.session.clone();
-        trial.pack(&vec![0; id_size], MOST_ROOM).map_or(5, |container| container.len())
+        self.container_due(&vec![0; id_size]).map_or(5, |container| container.len())
     }
 
     pub fn pack(&mut self, room: usize, id_size: usize) {

@@ -145,7 +145,7 @@ fn brim(script: &mut Script) {
 }
 
 /// What the cadence asks for, for every fingerprint, or for all but one.
-fn sound_of_a_frame(script: &mut Script) {
+pub fn sound_of_a_frame(script: &mut Script) {
     let Some(running) = script.running() else { return };
     let bits = 8 * running.bytes_due();
     let decimator = running.rate.decimator;
