@@ -56,11 +56,11 @@ readable c =
     && (leb (c .count) 32
     && printsReadable (c .count) (c .prints))))
 
--- 29
+-- "29 contents that no reading gives"
 unfoldable pub contentsNumber : Contents → ℕ
 contentsNumber c = unless (readable c) 29 0
 
--- then 12
+-- "12 output too short"
 unfoldable pub writeNumber : Contents → ℕ → ℕ
 writeNumber c room = roomNumber (contentsNumber c) (encode c) room
 

@@ -1,11 +1,11 @@
--- The theorems about containers: both round trips (demand 2), what 29 means, and the largest container.
+-- The theorems about containers: both round trips (demand 2), what 29 means, and how long a container is.
 use Prim.Native.Nat.{ℕ, _+_, _≤_}
 use mathlib.Core.List.{List}
 use mathlib.Core.Path.{_≡_, refl, ap, sym, subst, _∙_}
 use mathlib.Core.Bool.{Bool, true, false, cond}
 use mathlib.Core.Logic.{_↔_}
 use native.Mathlib.Omega.{arith}
-use lib.ListN.{length, take, replicate}
+use lib.ListN.{length, take}
 use lib.Dec.{ltb, eqb}
 use borrow.Author.Tests.{le-ltb}
 use Rattle.laws.specs.Bytes.{Bytes}
@@ -15,8 +15,6 @@ use Rattle.laws.proofs.Calls.{done, told-zero, handed}
 use Rattle.laws.proofs.Tests.{past}
 use Rattle.rates.specs.Rates.{rateListed, twoFields}
 use Rattle.rates.specs.Mixes.{mixListed}
-use Rattle.laws.specs.declared.Video.the-variants.{Two}
-use Rattle.container.specs.declared.Print.{Print}
 use Rattle.container.specs.declared.Contents.{Contents}
 use Rattle.container.specs.declared.Reading.{Reading}
 use Rattle.container.specs.Bytes.{idBytes, videoBytes, printBytes, runBytes, audioBytes, partBytes, flagByte, frontBytes, checkByte, encode}
@@ -29,6 +27,7 @@ use Rattle.container.proofs.Bytes as bytes
 use Rattle.container.proofs.Outcome.{write-0}
 use Rattle.container_laws.specs.Typed.{Typed}
 use Rattle.container_laws.specs.Given.{ReadAs}
+use Rattle.container_laws.specs.Largest.{fullContents, Largest}
 use Rattle.container_laws.proofs.Back.{written-again}
 use Rattle.container_laws.proofs.There.{read-as-written}
 use Rattle.container_laws.proofs.Gives.{reading-readable}
@@ -124,23 +123,8 @@ some-reading c t = (
 pub exactly-29 : (c : Contents) (room : ℕ) → Typed c → (writeDone c room .number ≡ 29) ↔ (ReadAs c → ⊥)
 exactly-29 c room t = (λ e r. not-29 c room (some-reading c t .1 r) e, λ f. is-29 c room (refused c (λ e. f (some-reading c t .0 e))))
 
--- ---- the largest container there is
+-- ---- the bound is met
 
-abbrev full : Print
-full = record { id = 31; mix = 5; size = 5; bytes = replicate 5 255 }
-
-abbrev pub biggest : Contents
-biggest = record { counter = 255; rate = 5; hasid = true; id = replicate 20 255; video = Two 240 240; count = 32; prints = replicate 32 full }
-
--- each part is at its largest; 254 bytes of room take it, one byte less does not; and it is read again
-pub record Largest (c : Contents) : Type 0 where
-  pub id : length (idBytes (c .hasid) (c .id)) ≡ 21
-  pub video : length (videoBytes (c .video)) ≡ 3
-  pub audio : length (audioBytes (c .count) (c .prints)) ≡ 225
-  pub written : writeDone c 254 ≡ done 0 254
-  pub short : writeDone c 253 ≡ done 12 0
-  pub read : reading (encode c) ≡ says c
-
-pub largest : Largest biggest
+pub largest : Largest fullContents
 unfolding encode frontBytes partBytes idBytes videoBytes audioBytes runBytes printBytes flagByte checkByte sum reading headerNumber partsReading partsJoined middle idPart videoPart bothFields audioPart audioOf runOf printPart printAt over rateListed twoFields mixListed writeDone writeNumber contentsNumber doneWith roomNumber readable idReadable videoReadable printsReadable printReadable allZero
 largest = record { id = refl; video = refl; audio = refl; written = refl; short = refl; read = refl }
