@@ -232,7 +232,7 @@ split-ends (x₀ ∷ x₁ ∷ x₂ ∷ x₃ ∷ y ∷ t) h =
     let e₃ : y ∷ t ≡ take m (y ∷ t) ++ (getD (y ∷ t) m 0 ∷ []) = sym (take-length (y ∷ t)) ∙ take-suc (y ∷ t) m 0 (omega arith) in
     rw (e₁, e₂) (ap (λ (l : List ℕ). x₀ ∷ x₁ ∷ x₂ ∷ x₃ ∷ l) e₃)
 
-pub middle-length : (s : List ℕ) → 5 ≤ length s → length (middle s) ≡ length s - 5
+middle-length : (s : List ℕ) → 5 ≤ length s → length (middle s) ≡ length s - 5
 unfolding middle
 middle-length s h = length-take-le (length s - 5) (drop 4 s) (rw length-drop (omega arith))
 

@@ -106,7 +106,7 @@ audio-passes flag b s =
     (λ r _. (le-leb n 32 (omega (arith, s 0)), run-passes n (drop 1 b) _ (bytes-drop 1 b s) r (blanks-pass 32 n))) (λ _. bad)) (λ _. bad))
     (λ _. bad))
 
-middle-bytes : (s : List ℕ) → Bytes s → Bytes (middle s)
+pub middle-bytes : (s : List ℕ) → Bytes s → Bytes (middle s)
 unfolding middle
 middle-bytes s b = bytes-take (length s - 5) (drop 4 s) (bytes-drop 4 s b)
 

@@ -2,7 +2,7 @@
 use Prim.Native.Nat.{ℕ, zero, suc, _+_, _-_, _*_, _/_, _%_, _≤_, _<_}
 use mathlib.Core.List.{List, [], _∷_, _++_}
 use mathlib.Core.Path.{_≡_, refl, ap}
-use mathlib.Core.Bool.{Bool, true, false, cond}
+use mathlib.Core.Bool.{Bool, true, false}
 use native.Mathlib.Omega.{arith}
 use lib.ListN.{length, getD, take, drop, length-append, length-drop, length-replicate}
 use lib.Seq.{length-take-le}
@@ -18,7 +18,7 @@ use Rattle.container.specs.declared.Print.{Print}
 use Rattle.container.specs.declared.IdPart.{IdPart}
 use Rattle.container.specs.declared.AudioPart.{AudioPart}
 use Rattle.container.specs.declared.Contents.{Contents}
-use Rattle.container.specs.Bytes.{idBytes, videoBytes, printBytes, runBytes, audioBytes, partBytes, videoFlag, audioFlag, flagByte, frontBytes, checkByte, encode}
+use Rattle.container.specs.Bytes.{idBytes, videoBytes, printBytes, runBytes, audioBytes, partBytes, flagByte, frontBytes, checkByte, encode}
 use Rattle.container.specs.Parts.{idPart, runOf, audioOf, audioPart}
 use Rattle.container.specs.Reading.{idIn, videoIn, middle, reading}
 use Rattle.container.specs.Writing.{printReadable, printsReadable, readable}
@@ -27,7 +27,8 @@ use Rattle.container.proofs.Readable.{passes, print-fits, readable-fits}
 use Rattle.container.proofs.Bytes.{Shaped, encode-length, sized, at-most-254}
 use Rattle.container_laws.specs.Typed.{TypedPrint, TypedPrints, TypedVideo, Typed}
 use Rattle.container_laws.proofs.Back.{accepted-is, written-again}
-use Rattle.container_laws.proofs.Gives.{reading-readable}
+use Rattle.container_laws.proofs.Gives.{middle-bytes, reading-readable}
+use Rattle.container_laws.proofs.There.{id-flag, video-flag, audio-flag}
 
 -- ---- what was read has arrays of the lengths that the types give, and is as long as its parts
 
@@ -54,7 +55,6 @@ prints-32 flag b s =
     (λ _. refl))
 
 reading-shaped : (s : List ℕ) → Bytes s → reading s .number ≡ 0 → Shaped (reading s .contents)
-unfolding middle
 reading-shaped s small e =
     let a = accepted-is s e in
     let flags = getD s 3 0 in
@@ -62,7 +62,7 @@ reading-shaped s small e =
     let past = idIn flags b .used + videoIn flags b .used in
     rw (a .says) (record {
       id = id-20 (flags / 4 % 2) b;
-      prints = prints-32 (flags % 2) (drop past b) (bytes-drop past b (bytes-take (length s - 5) (drop 4 s) (bytes-drop 4 s small)));
+      prints = prints-32 (flags % 2) (drop past b) (bytes-drop past b (middle-bytes s small));
     })
 
 pub accepted-sized : (s : List ℕ) → Bytes s → reading s .number ≡ 0 → (5 ≤ length s) × (length s ≤ 254)
@@ -113,19 +113,6 @@ audio-bytes (suc n) ps h t e = bytes-cons (n * 8 + 2) (runBytes (take (suc n) ps
 flag-small : (c : Contents) → c .rate ≤ 11 → flagByte c < 256
 unfolding flagByte
 flag-small c h = omega (arith, id-flag (c .hasid), video-flag (c .video), audio-flag (c .count))
-  where
-    id-flag : (present : Bool) → cond present 1 0 ≤ 1
-    id-flag true = omega arith
-    id-flag false = omega arith
-
-    video-flag : (v : Video) → videoFlag v ≤ 1
-    video-flag Absent = omega arith
-    video-flag (One a) = omega arith
-    video-flag (Two a b) = omega arith
-
-    audio-flag : (n : ℕ) → audioFlag n ≤ 1
-    audio-flag zero = omega arith
-    audio-flag (suc n) = omega arith
 
 pub encode-bytes : (c : Contents) → Typed c → readable c ≡ true → Bytes (encode c)
 unfolding encode frontBytes partBytes checkByte

@@ -177,16 +177,16 @@ audio-there (suc n) ps m l w z =
 
 -- ---- the flags, taken apart again
 
-video-flag : (v : Video) → videoFlag v ≤ 1
+pub video-flag : (v : Video) → videoFlag v ≤ 1
 video-flag Absent = omega arith
 video-flag (One a) = omega arith
 video-flag (Two a b) = omega arith
 
-audio-flag : (n : ℕ) → audioFlag n ≤ 1
+pub audio-flag : (n : ℕ) → audioFlag n ≤ 1
 audio-flag zero = omega arith
 audio-flag (suc n) = omega arith
 
-id-flag : (present : Bool) → cond present 1 0 ≤ 1
+pub id-flag : (present : Bool) → cond present 1 0 ≤ 1
 id-flag true = omega arith
 id-flag false = omega arith
 

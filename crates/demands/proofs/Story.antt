@@ -19,8 +19,8 @@ use Rattle.picture.proofs.Steps.{next-monitored}
 use Rattle.fingerprint.specs.State.{valuesOf}
 use Rattle.fingerprint.specs.Paper.{soundAnswer}
 use Rattle.container.specs.Bytes.{encode}
-use Rattle.container.proofs.Bytes.{at-most-254}
 use Rattle.container.specs.Writing.{writeNumber, writeDone, writeOut}
+use Rattle.container.proofs.Bytes.{at-most-254}
 use Rattle.session.specs.Fingerprints.{withBlanks}
 use Rattle.session.specs.Packing.{idOf, readyNumber}
 use Rattle.demands.specs.Calls.{Setup, Call, line, sound, pack, Answer, Event}
