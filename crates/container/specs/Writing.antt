@@ -1,4 +1,4 @@
--- Write (01, What a caller is told): 29 contents that no reading gives, 12 output too short.
+-- Write (01, What a caller is told, as 02's A7 leaves it): 29 contents that no reading gives, 12 output too short.
 use Prim.Native.Nat.{ℕ, zero, suc, _≤_, _<_}
 use mathlib.Core.List.{List, [], _∷_}
 use mathlib.Core.Bool.{Bool, true, cond, _&&_}

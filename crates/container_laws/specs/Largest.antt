@@ -8,6 +8,7 @@ use Rattle.container.specs.declared.Contents.{Contents}
 use Rattle.container.specs.Bytes.{idBytes, videoBytes, audioBytes, encode}
 use Rattle.container.specs.Reading.{reading}
 use Rattle.container.specs.Writing.{writeDone}
+use Rattle.container_laws.specs.Typed.{Typed}
 
 abbrev pub fullPrint : Print
 fullPrint = record { id = 31; mix = 5; size = 5; bytes = replicate 5 255 }
@@ -16,6 +17,7 @@ abbrev pub fullContents : Contents
 fullContents = record { counter = 255; rate = 5; hasid = true; id = replicate 20 255; video = Two 240 240; count = 32; prints = replicate 32 fullPrint }
 
 pub record Largest (c : Contents) : Type 0 where
+  pub typed : Typed c
   pub id : length (idBytes (c .hasid) (c .id)) ≡ 21
   pub video : length (videoBytes (c .video)) ≡ 3
   pub audio : length (audioBytes (c .count) (c .prints)) ≡ 225

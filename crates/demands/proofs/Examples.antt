@@ -11,14 +11,13 @@ use lib.Seq.{take-append-seam, drop-at, getD-at, getD-set-same}
 use borrow.Author.Tests.{eqb-true, eqb-false, eq-eqb, ne-eqb, le-leb}
 use Rattle.laws.specs.Bytes.{Bytes}
 use Rattle.laws.specs.Calls.{over, outWith}
-use Rattle.laws.proofs.Bytes.{bytes-nil, bytes-cons, bytes-append}
+use Rattle.laws.proofs.Bytes.{bytes-nil, bytes-cons, bytes-replicate, bytes-append}
 use Rattle.laws.proofs.Tests.{both, chosen}
 use Rattle.rates.specs.Mixes.{mixListed}
 use Rattle.sampling.specs.Samples.{firsts}
 use Rattle.sampling.proofs.Filled.{length-firsts}
 use Rattle.picture.specs.declared.Told.the-variants.{Open}
 use Rattle.picture.specs.History.{isWaiting}
-use Rattle.fingerprint.proofs.Bits.{small-zeros}
 use Rattle.container.specs.declared.Print.{Print}
 use Rattle.laws.specs.declared.Video.{Video}
 use Rattle.laws.specs.declared.Video.the-variants.{Absent, One, Two}
@@ -214,7 +213,7 @@ module _ (xs : ℕ → ℕ) where
     unfolding printAs
     print-typed p l = record {
       long = length-append (firsts xs (p .size)) (replicate (5 - p .size) 0) ∙ omega (arith, length-firsts xs (p .size), length-replicate {A = ℕ} (5 - p .size) 0);
-      bytes = bytes-append (firsts xs (p .size)) (replicate (5 - p .size) 0) (firsts-bytes (p .size)) (small-zeros (5 - p .size));
+      bytes = bytes-append (firsts xs (p .size)) (replicate (5 - p .size) 0) (firsts-bytes (p .size)) (bytes-replicate (5 - p .size) 0 (omega arith));
     }
 
     prints-typed : (n : ℕ) (ps : List Print) → printsReadable n ps ≡ true → TypedPrints (map (printAs xs) ps)

@@ -10,7 +10,7 @@ use lib.ListN.{length, drop, replicate, length-append, length-drop, length-repli
 use lib.Seq.{drop-at}
 use borrow.Author.Tests.{le-leb, eqb-true}
 use Rattle.laws.specs.Bytes.{Bytes}
-use Rattle.laws.proofs.Bytes.{bytes-nil, bytes-cons, bytes-append}
+use Rattle.laws.proofs.Bytes.{bytes-nil, bytes-cons, bytes-replicate, bytes-append}
 use Rattle.laws.proofs.Tests.{both, chosen}
 use Rattle.rates.specs.Rates.{pairsWith}
 use Rattle.rates.specs.Rates as rates
@@ -32,7 +32,6 @@ use Rattle.picture.proofs.Sizes.{Each, fields-sized}
 use Rattle.picture.proofs.Sizes as sizes
 use Rattle.sound.specs.Filter.{meanAfter, envelopeAfter, bitOf}
 use Rattle.fingerprint.specs.History.{upTo, bitAt, bitsFrom, fromBits, bytesFrom}
-use Rattle.fingerprint.proofs.Bits.{small-zeros}
 use Rattle.container.specs.declared.Print as container
 use Rattle.container.specs.Contents.{blankPrint}
 use Rattle.container.specs.Sizes.{Sized}
@@ -148,7 +147,7 @@ id-long id = chosen (λ (x : List ℕ). length x ≡ 20) (eqb (length id) 20) _ 
 
 id-bytes : (id : List ℕ) → Bytes id → Bytes (idOf id)
 unfolding idOf
-id-bytes id b = chosen Bytes (eqb (length id) 20) id (replicate 20 0) (λ _. b) (λ _. small-zeros 20)
+id-bytes id b = chosen Bytes (eqb (length id) 20) id (replicate 20 0) (λ _. b) (λ _. bytes-replicate 20 0 (omega arith))
 
 -- ---- Audio
 
@@ -193,7 +192,7 @@ module _ (d g n : ℕ) (h : ℕ → ℕ → List ℕ) (some : 1 ≤ n) (five : n
   print-typed : (k m : ℕ) → TypedPrint (print k m)
   print-typed k m = record {
     long = length-append (bytesFrom d (h m k) g n) (replicate (5 - n) 0) ∙ omega (arith, from-length d (h m k) g n, length-replicate {A = ℕ} (5 - n) 0);
-    bytes = bytes-append (bytesFrom d (h m k) g n) (replicate (5 - n) 0) (from-bytes d (h m k) g n) (small-zeros (5 - n));
+    bytes = bytes-append (bytesFrom d (h m k) g n) (replicate (5 - n) 0) (from-bytes d (h m k) g n) (bytes-replicate (5 - n) 0 (omega arith));
   }
 
   said-readable : (k : ℕ) (ms : List ℕ) (ps : List container.Print) → k + length ms ≤ 32 → allListed ms ≡ true → printsReadable 0 ps ≡ true
@@ -225,7 +224,7 @@ blank-readable (suc j) (suc m) = blank-readable j m
 blank-typed : (j m : ℕ) → TypedPrints (drop j (replicate m blankPrint))
 unfolding TypedPrints
 blank-typed zero zero = tt
-blank-typed zero (suc m) = (record { long = refl; bytes = small-zeros 5 }, blank-typed zero m)
+blank-typed zero (suc m) = (record { long = refl; bytes = bytes-replicate 5 0 (omega arith) }, blank-typed zero m)
 blank-typed (suc j) zero = tt
 blank-typed (suc j) (suc m) = blank-typed j m
 

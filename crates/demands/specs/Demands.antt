@@ -47,7 +47,7 @@ pub record Untouched (s : Session) (c : Call) : Type 0 where
   pub written : answerOf s c .written ≡ 0
   pub out : answerOf s c .out ≡ lent c
 
--- the row of a call in the table of numbers, an instant's being 02's; "Restarts are never refused"
+-- the row of a call in the table of numbers, an instant's being 02's (A3) and Pack's as 02's A7 leaves it; "Restarts are never refused"
 unfoldable pub numbersOf : Call → List ℕ
 numbersOf (line n b) = 2 ∷ 3 ∷ 4 ∷ 5 ∷ []
 numbersOf (sound k b) = 7 ∷ 8 ∷ 9 ∷ []

@@ -1,4 +1,4 @@
--- Document 01, with 02's A3, as a function of what was set up and of the calls and answers so far: no slot, no store of bits, no wait, no counter and no place is kept.
+-- Document 01, with 02's A3 and A7, as a function of what was set up and of the calls and answers so far: no slot, no store of bits, no wait, no counter and no place is kept.
 use Prim.Native.Nat.{ℕ, zero, suc, _+_, _-_, _*_, _%_}
 use mathlib.Core.Bool.{Bool, true, cond, _&&_}
 use mathlib.Core.List.{List, [], _∷_, _++_}
@@ -149,7 +149,7 @@ instantSaid u es k i =
     cond (leb (length (u .mixes)) k) 7
     (instantAnswer (getD (u .mixes) k 0) (intervalOf (u .rate)) (samples es (getD (u .mixes) k 0) k) (bitsPacked (u .rate) (sounded u es)) i)
 
--- "10 no ready frame; 11 ID length neither 0 nor 20" (`readyNumber`); then what Write answers for these contents, "12" being its
+-- "10 no ready frame; 11 ID length neither 0 nor 20" (`readyNumber`); then what Write answers for these contents, "12" being its (02, A7)
 unfoldable pub packedSaid : ℕ → Contents → List ℕ → Answer
 packedSaid number c out =
     cond (eqb number 0)

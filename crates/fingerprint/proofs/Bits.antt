@@ -113,9 +113,6 @@ length-shifted n l h = omega (arith, length-append (drop n l) (replicate n 0), l
 pub small-shifted : (n : ℕ) (l : List ℕ) → ((k : ℕ) → getD l k 0 < 256) → (k : ℕ) → getD (shifted n l) k 0 < 256
 small-shifted n l h k = rw (getD-shifted n l k) (h (n + k))
 
-pub small-zeros : (m k : ℕ) → getD (replicate m 0) k 0 < 256
-small-zeros m k = rw (getD-zeros m k) (omega arith)
-
 pub zero-bits : (m k : ℕ) → bitIn (replicate m 0) k ≡ 0
 unfolding bitIn
 zero-bits m k =

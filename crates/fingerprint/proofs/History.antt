@@ -10,6 +10,7 @@ use native.Mathlib.Decide.{ℕ-discrete}
 use lib.Dec.{ltb, eqb}
 use lib.ListN.{length, getD, drop, length-append}
 use borrow.Author.Tests.{eq-eqb, ne-eqb, lt-ltb, eqb-true}
+use Rattle.laws.proofs.Bytes.{bytes-replicate}
 use Rattle.sound.specs.Filter.{filterNext, filtered, envelopeAfter, meanAfter, bitOf}
 use Rattle.sound.proofs.Whole.{by-order}
 use Rattle.floats.specs.declared.Instant.{Instant}
@@ -17,7 +18,7 @@ use Rattle.floats.specs.Instants.{refusedBy, floatValue}
 use Rattle.fingerprint.specs.declared.Fingerprint.{Fingerprint}
 use Rattle.fingerprint.specs.State.{freshOf, filteredOf, withBit, holding, pushedOf, withWait, keptOf, stepOf, after, instants, valuesOf, heardOf, newBits, storeNumber, soundNumber, instantNumber, canTake, without, takeOf}
 use Rattle.fingerprint.specs.History.{upTo, bitAt, keptAmong, keptBits, bitIn, some, Holds}
-use Rattle.fingerprint.proofs.Bits.{kept-bit, other-bit, length-bit, small-bit, shifted-bit, length-shifted, small-shifted, small-zeros, zero-bits, same-bytes}
+use Rattle.fingerprint.proofs.Bits.{kept-bit, other-bit, length-bit, small-bit, shifted-bit, length-shifted, small-shifted, zero-bits, same-bytes}
 use Rattle.fingerprint.proofs.Counts.{bits-none, bits-some, bits-more, kept-count, store-fits, number-fits}
 use Rattle.fingerprint.proofs.Steps.{length-values}
 use Rattle.fingerprint.proofs.Taking.{can-take-room}
@@ -83,7 +84,7 @@ holds-fresh mix d p = record {
   soon = p;
   room = omega arith;
   size = refl;
-  small = small-zeros 32;
+  small = bytes-replicate 32 0 (omega arith);
   bits = λ k l. absurd (not-suc-le-zero l);
   clean = λ k l. zero-bits 32 k;
 }

@@ -13,6 +13,10 @@ pub bytes-cons : (x : ℕ) (s : List ℕ) → x < 256 → Bytes s → Bytes (x �
 bytes-cons x s h b zero = h
 bytes-cons x s h b (suc k) = b k
 
+pub bytes-replicate : (n x : ℕ) → x < 256 → Bytes (replicate n x)
+bytes-replicate zero x h = bytes-nil
+bytes-replicate (suc n) x h = bytes-cons x (replicate n x) h (bytes-replicate n x h)
+
 pub bytes-append : (s t : List ℕ) → Bytes s → Bytes t → Bytes (s ++ t)
 bytes-append [] t b d k = d k
 bytes-append (x ∷ s) t b d zero = b 0

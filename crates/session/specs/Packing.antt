@@ -88,7 +88,7 @@ packNumber s idLength = unless (isSet (s .programme .settings)) 1 (readyNumber (
 abbrev pub refusedWith : ℕ → Session → Packed
 refusedWith number s = record { number = number; written = 0; session = s }
 
--- the bytes packed are what Write writes for these contents; "12" is its
+-- the bytes packed are what Write writes for these contents; "12" is its (02, A7)
 abbrev pub packedWith : Session → Done → Packed
 packedWith s d = cond (eqb (d .number) 0) (record { number = 0; written = d .written; session = sessionAfter s }) (refusedWith (d .number) s)
 
