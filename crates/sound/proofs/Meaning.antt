@@ -1,12 +1,17 @@
 -- What the definitions of the mix and the filters mean.
-use Prim.Native.Nat.{ℕ, suc, _+_, _-_, _*_, _/_, _%_, _<_}
+use Prim.Native.Nat.{ℕ, zero, suc, _+_, _-_, _*_, _/_, _%_, _^_, _<_}
 use mathlib.Core.Path.{_≡_, refl, sym, ap, ap₂, _∙_}
-use native.Mathlib.Nat.{div-add-mod, div-le-self, mod-lt}
+use native.Mathlib.Nat.{div-add-mod, div-le-self, mod-lt, pow-suc}
 use native.Mathlib.Omega.{arith}
 use lib.IntN.{ℤ, pos, negsuc, negℤ, _+ℤ_, _-ℤ_, _*ℤ_, subℕ}
-use Rattle.sound.specs.Mix.{floor, pseudoAbsolute}
+use mir.Syntax.{w16}
+use mir.Val.{ofZ}
+use borrow.Author.Tests.{eq-eqb, ne-eqb}
+use Rattle.sound.specs.Mix.{signed, floor, pseudoAbsolute}
+use Rattle.sound.specs.Inversion.{inverted, pseudoAbsoluteOfBits}
 use Rattle.sound.specs.Filter.{filterNext}
-use Rattle.sound.proofs.Whole.{sub-pos, sub-neg, sub-add, negated}
+use Rattle.sound.proofs.Whole.{by-order, sub-pos, sub-neg, sub-add, negated}
+use Rattle.sound.proofs.Rounding.{absolute-low, absolute-high}
 
 -- rounding down towards minus infinity: z is d times the floor, and a remainder of at least 0 and less than d
 pub floor-is : (z : ℤ) (d : ℕ) → 0 < d → (r : ℕ) × (r < d) × (z ≡ pos d *ℤ floor z d +ℤ pos r)
@@ -27,6 +32,30 @@ absolute-negative n = sym (sub-pos (suc n) 1 n (omega arith))
 pub absolute-other : (n : ℕ) → pseudoAbsolute (pos n) ≡ n
 unfolding pseudoAbsolute
 absolute-other n = refl
+
+-- 000, 5.3.2: n bits inverted are the number with all of them 1, less theirs
+pub inverted-is : (n w : ℕ) → w < 2 ^ n → inverted n w ≡ 2 ^ n - 1 - w
+unfolding inverted
+inverted-is zero w h = omega arith
+inverted-is (suc n) w h =
+    let s : 2 ^ suc n ≡ 2 ^ n * 2 = pow-suc 2 n in
+    let e = inverted-is n (w / 2) (omega arith) in
+    omega arith
+
+-- the inversion of the sixteen bits of m, in two's complement, is -m-1, for every m from -32,768 to -1, here -(n + 1)
+pub inverted-negative : (n : ℕ) → n < 32768 → pos (inverted 16 (ofZ w16 (negsuc n))) ≡ negℤ (negsuc n) -ℤ pos 1
+unfolding pseudoAbsolute
+inverted-negative n h =
+    let e : inverted 16 (ofZ w16 (negsuc n)) ≡ n = inverted-is 16 (ofZ w16 (negsuc n)) (omega arith) ∙ omega arith in
+    ap pos e ∙ absolute-negative n
+
+-- so the clause, which speaks of the bits, and 01, which speaks of the number, say the same
+pub clause-is : (w : ℕ) → w < 65536 → pseudoAbsoluteOfBits w ≡ pseudoAbsolute (signed w)
+unfolding pseudoAbsoluteOfBits
+clause-is w b =
+    by-order w 32768
+    (λ h. simp (ne-eqb (w / 32768) 1 (λ e. omega arith)) (absolute-low w h))
+    (λ h. simp (eq-eqb (w / 32768) 1 (omega arith)) (inverted-is 16 w b ∙ absolute-high w h b))
 
 -- the filter in document 01's own order of terms
 pub filter-is : (k g v a : ℕ) → filterNext k g v a ≡ g * a + v - v / k

@@ -64,6 +64,7 @@ pub absolute-low : (m : ℕ) → m < 32768 → m ≡ pseudoAbsolute (signed m)
 unfolding pseudoAbsolute
 absolute-low m h = ap pseudoAbsolute (sym (signed-low m h))
 
-pub absolute-high : (m : ℕ) → 32768 ≤ m → m < 65536 → 65536 - m - 1 ≡ pseudoAbsolute (signed m)
+-- the number of `!`: all sixteen ones, less m
+pub absolute-high : (m : ℕ) → 32768 ≤ m → m < 65536 → 65535 - m ≡ pseudoAbsolute (signed m)
 unfolding pseudoAbsolute
-absolute-high m h b = ap pseudoAbsolute (sym (signed-high m (65536 - m - 1) (omega arith) (omega arith)))
+absolute-high m h b = ap pseudoAbsolute (sym (signed-high m (65535 - m) (omega arith) (omega arith)))

@@ -40,15 +40,15 @@ fn rounded(sum: u32, bias: u32, d: u32) -> u16
     ((q + 32768) % 65536) as u16
 }
 
-// A negative mix m, here its 16 bits, becomes -m-1.
+// "the 16 bits of the audio sample shall be inverted (one's complement) if the most significant bit is '1'" (000, 5.3.2).
+// So a negative mix m, here its 16 bits, becomes -m-1: `proofs.Meaning.inverted-negative`.
 fn pseudo_absolute(m: u16) -> u16
     ensures { λ r. ⌜ r ≡ pseudoAbsolute (signed m) ⌝ }
 {
-    if m < 32768 {
-        return m;
+    if m >> 15 == 1 {
+        return !m;
     }
-    let negated = 65536 - (m as u32);
-    (negated - 1) as u16
+    m
 }
 
 // a(i) of a mono instant, from its sample's 16 bits.
