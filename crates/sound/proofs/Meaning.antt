@@ -1,4 +1,4 @@
--- What the definitions of the mix and the filters mean.
+-- What the definitions of the mix, of 000, 5.3.2's inversion and of the filters mean.
 use Prim.Native.Nat.{ℕ, zero, suc, _+_, _-_, _*_, _/_, _%_, _^_, _<_}
 use mathlib.Core.Path.{_≡_, refl, sym, ap, ap₂, _∙_}
 use native.Mathlib.Nat.{div-add-mod, div-le-self, mod-lt, pow-suc}
@@ -11,7 +11,7 @@ use Rattle.sound.specs.Mix.{signed, floor, pseudoAbsolute}
 use Rattle.sound.specs.Inversion.{inverted, pseudoAbsoluteOfBits}
 use Rattle.sound.specs.Filter.{filterNext}
 use Rattle.sound.proofs.Whole.{by-order, sub-pos, sub-neg, sub-add, negated}
-use Rattle.sound.proofs.Rounding.{absolute-low, absolute-high}
+use Rattle.sound.proofs.Rounding.{signed-high, absolute-low, absolute-high}
 
 -- rounding down towards minus infinity: z is d times the floor, and a remainder of at least 0 and less than d
 pub floor-is : (z : ℤ) (d : ℕ) → 0 < d → (r : ℕ) × (r < d) × (z ≡ pos d *ℤ floor z d +ℤ pos r)
@@ -41,6 +41,10 @@ inverted-is (suc n) w h =
     let s : 2 ^ suc n ≡ 2 ^ n * 2 = pow-suc 2 n in
     let e = inverted-is n (w / 2) (omega arith) in
     omega arith
+
+-- the toolchain's sixteen bits of a negative number, in two's complement, are what 01's samples are read from
+pub bits-read : (n : ℕ) → n < 32768 → signed (ofZ w16 (negsuc n)) ≡ negsuc n
+bits-read n h = signed-high (ofZ w16 (negsuc n)) n (omega arith) h
 
 -- the inversion of the sixteen bits of m, in two's complement, is -m-1, for every m from -32,768 to -1, here -(n + 1)
 pub inverted-negative : (n : ℕ) → n < 32768 → pos (inverted 16 (ofZ w16 (negsuc n))) ≡ negℤ (negsuc n) -ℤ pos 1
