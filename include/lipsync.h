@@ -124,7 +124,7 @@ enum {
     /* within a fingerprint */
     LIPSYNC_FLAT_AUDIO_ID = 0,     /* 0 to 31 */
     LIPSYNC_FLAT_AUDIO_MIX = 1,    /* a mix type */
-    LIPSYNC_FLAT_AUDIO_SIZE = 2,   /* how many of the five bytes are there, 1 to 5 */
+    LIPSYNC_FLAT_AUDIO_SIZE = 2,   /* how many of the five bytes are there: one count for all, one that the rate's cadence has */
     LIPSYNC_FLAT_AUDIO_BYTES = 3   /* five bytes, oldest first; the lowest bit of a byte is the oldest */
 };
 

@@ -63,6 +63,13 @@ static int is_rate(unsigned code) {
 
 static int is_interlaced(unsigned code) { return code == LIPSYNC_RATE_25 || code == LIPSYNC_RATE_29_97 || code == LIPSYNC_RATE_30; }
 
+/* 000, Table 13: the one or two counts of each rate's cadence (02, A2) */
+static const unsigned counts[12][2] = {
+    [LIPSYNC_RATE_23_98] = {4, 5}, [LIPSYNC_RATE_24] = {5, 5}, [LIPSYNC_RATE_47_95] = {2, 3}, [LIPSYNC_RATE_25] = {4, 5}, [LIPSYNC_RATE_29_97] = {3, 4},
+    [LIPSYNC_RATE_30] = {4, 4}, [LIPSYNC_RATE_48] = {2, 3}, [LIPSYNC_RATE_50] = {2, 3}, [LIPSYNC_RATE_59_94] = {1, 2}, [LIPSYNC_RATE_60] = {2, 2}};
+
+static int occurs(unsigned rate, unsigned size) { return size == counts[rate][0] || size == counts[rate][1]; }
+
 static int is_mix(unsigned mix) { return mix == LIPSYNC_MIX_MONO || mix == LIPSYNC_MIX_STEREO || mix == LIPSYNC_MIX_5_1; }
 
 static int judge_container(const uint8_t *s, size_t n, uint8_t *flat) {
@@ -97,14 +104,15 @@ static int judge_container(const uint8_t *s, size_t n, uint8_t *flat) {
     }
     if (s[3] & 1) {
         if (end - p < 1 || s[p] % 8 != 2) return LIPSYNC_REFUSED_AUDIO;
-        unsigned count = s[p] / 8 + 1;
+        unsigned count = s[p] / 8 + 1, first = 0;
         flat[LIPSYNC_FLAT_AUDIO_COUNT] = (uint8_t)count;
         p++;
         for (unsigned k = 0; k < count; k++) {
             if (end - p < 2) return LIPSYNC_REFUSED_AUDIO;
             unsigned mix = s[p] % 8, size = s[p + 1] / 8;
             if (!is_mix(mix)) return LIPSYNC_REFUSED_AUDIO;
-            if (s[p + 1] % 8 != 0 || size < 1 || size > 5 || end - p < 2 + size) return LIPSYNC_REFUSED_AUDIO;
+            if (k == 0) first = size;
+            if (s[p + 1] % 8 != 0 || !occurs(rate, size) || size != first || end - p < 2 + size) return LIPSYNC_REFUSED_AUDIO;
             uint8_t *f = flat + LIPSYNC_FLAT_AUDIO + LIPSYNC_FLAT_AUDIO_STEP * k;
             f[LIPSYNC_FLAT_AUDIO_ID] = s[p] / 8;
             f[LIPSYNC_FLAT_AUDIO_MIX] = (uint8_t)mix;
@@ -252,10 +260,10 @@ static size_t made(uint8_t *s) {
         while (values--) s[n++] = (uint8_t)below(241);
     }
     if (flags & 1) {
-        unsigned count = below(4) ? 1 + below(4) : 1 + below(32);
+        unsigned count = below(4) ? 1 + below(4) : 1 + below(32), every = counts[rate][below(2)];
         s[n++] = (uint8_t)((count - 1) * 8 + 2);
         while (count--) {
-            unsigned size = 1 + below(5);
+            unsigned size = every;
             s[n++] = (uint8_t)(below(32) * 8 + mixes[below(3)]);
             s[n++] = (uint8_t)(size * 8);
             while (size--) s[n++] = (uint8_t)below(256);
@@ -273,7 +281,7 @@ static size_t damaged(uint8_t *s, size_t n) {
         case 1: s[below((uint32_t)n)] = (uint8_t)below(256); break;
         case 2: n = n > 1 ? n - 1 : n; break;
         case 3: s[n++] = (uint8_t)below(256); break;
-        case 4: s[3] = (uint8_t)below(256); break;
+        case 4: s[3] = (uint8_t)(below(2) ? below(256) : (2 + below(10)) * 16 + s[3] % 16); break;
         default: n = below(20) ? n : 1 + below((uint32_t)n); break;
         }
     }
@@ -327,27 +335,67 @@ static void figures(void) {
     CHECK(read_flat(audio, sizeof audio) == LIPSYNC_REFUSED_SUM && untouched());
 }
 
-/* all parts, each as large as it can be: 4 + 21 + 3 + 225 + 1 bytes */
-static void largest(void) {
-    uint8_t s[MOST] = {0, 255, 0, LIPSYNC_RATE_25 * 16 + 7}, packet[2 * MOST];
-    unsigned words[MOST];
-    size_t n = 25, written = 99;
-    s[n++] = 0x11;
+/* all parts of a container, each as large as the rate lets it be */
+static size_t full(unsigned rate, uint8_t *s) {
+    unsigned size = counts[rate][0] > counts[rate][1] ? counts[rate][0] : counts[rate][1];
+    size_t n = 25;
+    memset(s, 0, MOST);
+    s[1] = 255;
+    s[3] = (uint8_t)(rate * 16 + 7);
+    s[n++] = is_interlaced(rate) ? 0x11 : 0x09;
     s[n++] = 240;
-    s[n++] = 240;
+    if (is_interlaced(rate)) s[n++] = 240;
     s[n++] = 31 * 8 + 2;
-    for (unsigned k = 0; k < 32; k++, n += 7) {
+    for (unsigned k = 0; k < 32; k++, n += 2 + size) {
         s[n] = (uint8_t)(k * 8 + LIPSYNC_MIX_5_1);
-        s[n + 1] = 5 * 8;
+        s[n + 1] = (uint8_t)(size * 8);
     }
     close_up(s, ++n);
-    CHECK(n == LIPSYNC_LARGEST_CONTAINER);
-    try_container(s, n, LIPSYNC_FLAT_SIZE);
-    CHECK(lay(words, wrap(s, n, words), packet) == LIPSYNC_LARGEST_PACKET);
-    CHECK(lipsync_write_packet(s, n, lend(), LIPSYNC_LARGEST_PACKET, &written) == LIPSYNC_OK && written == LIPSYNC_LARGEST_PACKET);
-    CHECK(holds(packet, LIPSYNC_LARGEST_PACKET));
-    CHECK(lipsync_write_packet(s, n, lend(), LIPSYNC_LARGEST_PACKET - 1, &written) == LIPSYNC_REFUSED_ROOM && written == 0 && untouched());
-    CHECK(lipsync_read_packet(packet, LIPSYNC_LARGEST_PACKET, lend(), LIPSYNC_LARGEST_CONTAINER, &written) == LIPSYNC_OK && written == n && holds(s, n));
+    return n;
+}
+
+/* 4 + 21 + 3 + 225 + 1 bytes at 25 Hz, and what each other rate's cadence leaves of them (02, A2) */
+static void largest(void) {
+    static const unsigned most[12] = {0, 0, 253, 253, 189, LIPSYNC_LARGEST_CONTAINER, 222, 222, 189, 189, 157, 157};
+    uint8_t s[MOST], packet[2 * MOST];
+    unsigned words[MOST];
+    for (unsigned rate = LIPSYNC_RATE_23_98; rate <= LIPSYNC_RATE_60; rate++) {
+        size_t n = full(rate, s), written = 99;
+        CHECK(n == most[rate] && read_flat(s, n) == LIPSYNC_OK);
+        try_container(s, n, LIPSYNC_FLAT_SIZE);
+        size_t size = lay(words, wrap(s, n, words), packet);
+        CHECK(size == LIPSYNC_LARGEST_PACKET - 2 * (LIPSYNC_LARGEST_CONTAINER - n));
+        CHECK(lipsync_write_packet(s, n, lend(), size, &written) == LIPSYNC_OK && written == size && holds(packet, size));
+        CHECK(lipsync_write_packet(s, n, lend(), size - 1, &written) == LIPSYNC_REFUSED_ROOM && written == 0 && untouched());
+        CHECK(lipsync_read_packet(packet, size, lend(), n, &written) == LIPSYNC_OK && written == n && holds(s, n));
+        CHECK(lipsync_read_packet(packet, size, lend(), n - 1, &written) == LIPSYNC_REFUSED_ROOM && written == 0 && untouched());
+    }
+}
+
+/* 02, A2: at each rate containers whose last fingerprint has one count and the others another, through every call; 0 where these are one count of the rate's cadence */
+static void byte_counts(void) {
+    static const unsigned numbers[] = {1, 2, 3, 32};
+    uint8_t s[MOST], packet[2 * MOST], flat[LIPSYNC_FLAT_SIZE];
+    unsigned words[MOST];
+    for (unsigned turn = 0; turn < 10 * 6 * 6 * 4; turn++) {
+        unsigned count = numbers[turn % 4], other = turn / 4 % 6, last = turn / 24 % 6, rate = 2 + turn / 144;
+        size_t n = 5;
+        memset(s, 0, sizeof s);
+        s[3] = (uint8_t)(rate * 16 + 1);
+        s[4] = (uint8_t)((count - 1) * 8 + 2);
+        for (unsigned k = 1; k <= count; k++) {
+            unsigned size = k == count ? last : other;
+            s[n] = LIPSYNC_MIX_MONO;
+            s[n + 1] = (uint8_t)(size * 8);
+            n += 2 + size;
+        }
+        close_up(s, ++n);
+        int right = (last == counts[rate][0] || last == counts[rate][1]) && (count == 1 || other == last);
+        CHECK(judge_container(s, n, flat) == (right ? LIPSYNC_OK : LIPSYNC_REFUSED_AUDIO));
+        try_container(s, n, MOST);
+        try_wrap(s, n, MOST);
+        try_unwrap(packet, lay(words, wrap(s, n, words), packet), MOST);
+    }
 }
 
 /* a container of these bytes before its checksum, with Length and checksum right */
@@ -392,17 +440,21 @@ static void container_refusals(void) {
     REFUSED_AS(VIDEO, 0, 0, 0, 0x52, 0x11, 0, 241); /* the second above 240 */
     REFUSED_AS(VIDEO, 0, 0, 0, 0x32, 0x11, 0, 0); /* two at 24 Hz */
     REFUSED_AS(VIDEO, 0, 0, 0, 0x82, 0x11, 0, 0); /* two at 48 Hz */
-    REFUSED_AS(AUDIO, 0, 0, 0, 0x51); /* no count */
-    REFUSED_AS(AUDIO, 0, 0, 0, 0x51, 0x03, 0x01, 0x08, 0); /* count's low bits not 2 */
-    REFUSED_AS(AUDIO, 0, 0, 0, 0x51, 0x02, 0x01); /* no AFDataCount */
-    REFUSED_AS(AUDIO, 0, 0, 0, 0x51, 0x02, 0x03, 0x08, 0); /* mix type 3 */
-    REFUSED_AS(AUDIO, 0, 0, 0, 0x51, 0x02, 0x01, 0x09, 0); /* AFDataCount's low bits not 0 */
-    REFUSED_AS(AUDIO, 0, 0, 0, 0x51, 0x02, 0x01, 0x00); /* no bytes */
+    REFUSED_AS(AUDIO, 0, 0, 0, 0xA1); /* no count; 59.94 Hz, which has 1 and 2 bytes */
+    REFUSED_AS(AUDIO, 0, 0, 0, 0xA1, 0x03, 0x01, 0x08, 0); /* count's low bits not 2 */
+    REFUSED_AS(AUDIO, 0, 0, 0, 0xA1, 0x02, 0x01); /* no AFDataCount */
+    REFUSED_AS(AUDIO, 0, 0, 0, 0xA1, 0x02, 0x03, 0x08, 0); /* mix type 3 */
+    REFUSED_AS(AUDIO, 0, 0, 0, 0xA1, 0x02, 0x01, 0x09, 0); /* AFDataCount's low bits not 0 */
+    REFUSED_AS(AUDIO, 0, 0, 0, 0xA1, 0x02, 0x01, 0x00); /* no bytes */
     REFUSED_AS(AUDIO, 0, 0, 0, 0x51, 0x02, 0x01, 0x30, 0, 0, 0, 0, 0, 0); /* six bytes */
-    REFUSED_AS(AUDIO, 0, 0, 0, 0x51, 0x02, 0x01, 0x10, 0); /* one byte of two */
-    REFUSED_AS(AUDIO, 0, 0, 0, 0x51, 0x0A, 0x01, 0x08, 0); /* one fingerprint of two */
+    REFUSED_AS(AUDIO, 0, 0, 0, 0xA1, 0x02, 0x01, 0x10, 0); /* one byte of two */
+    REFUSED_AS(AUDIO, 0, 0, 0, 0xA1, 0x0A, 0x01, 0x08, 0); /* one fingerprint of two */
+    REFUSED_AS(AUDIO, 0, 0, 0, 0xB1, 0x02, 0x01, 0x28, 1, 2, 3, 4, 5); /* five bytes at 60 Hz */
+    REFUSED_AS(AUDIO, 0, 0, 0, 0xA1, 0x0A, 0x01, 0x08, 0, 0x01, 0x10, 0, 0); /* 1 byte and 2 */
+    REFUSED_AS(VIDEO, 0, 0, 0, 0xB3, 0x09, 241, 0x02, 0x01, 0x28, 1, 2, 3, 4, 5); /* 26 before 27 */
+    REFUSED_AS(AUDIO, 0, 0, 0, 0xB1, 0x02, 0x01, 0x28, 1, 2, 3, 4, 5, 0); /* 27 before 28 */
     REFUSED_AS(LEFT_OVER, 0, 0, 0, 0x50, 0); /* a byte left over */
-    REFUSED_AS(LEFT_OVER, 0, 0, 0, 0x51, 0x02, 0x01, 0x08, 0, 0);
+    REFUSED_AS(LEFT_OVER, 0, 0, 0, 0xA1, 0x02, 0x01, 0x08, 0, 0);
 }
 
 static void packet_refusals(void) {
@@ -579,6 +631,7 @@ int main(int many, char **words) {
     }
     figures();
     largest();
+    byte_counts();
     container_refusals();
     packet_refusals();
     rooms();

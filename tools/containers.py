@@ -1,4 +1,4 @@
-# containers: what a container says, worked out from document 01 ("The container"), for the scripts that show or check one.
+# containers: what a container says, worked out from document 01 ("The container") and 02's A2, for the scripts that show or check one.
 import collections
 
 from tables import MIXES, RATES
@@ -9,7 +9,7 @@ Fingerprint = collections.namedtuple("Fingerprint", "id mix bytes")
 
 
 class Refused(Exception):
-    """A container that is not accepted; `number` is the first refusal of 01 that applies."""
+    """A container that is not accepted; `number` is the first refusal of 01 that applies, as 02's A2 has 27."""
 
     def __init__(self, number):
         super().__init__(number)
@@ -40,16 +40,19 @@ def video_part(parts, rate):
     return list(values)
 
 
-def audio_part(parts):
+def audio_part(parts, rate):
+    """Every fingerprint carries the same count, which occurs in the cadence of the container's rate (02, A2)."""
     count = parts.take(1, 27)[0]
     if count % 8 != 2:
         raise Refused(27)
     prints = []
     for _ in range(count // 8 + 1):
         name, size = parts.take(2, 27)
-        if name % 8 not in MIXES or size % 8 != 0 or not 1 <= size // 8 <= 5:
+        if name % 8 not in MIXES or size % 8 != 0 or size // 8 not in RATES[rate].cadence:
             raise Refused(27)
         prints.append(Fingerprint(name // 8, name % 8, parts.take(size // 8, 27)))
+    if len({len(one.bytes) for one in prints}) > 1:
+        raise Refused(27)
     return prints
 
 
@@ -74,7 +77,7 @@ def read(data):
         raise Refused(25)
     name = parts.take(21, 25)[1:] if flags & 4 else None
     video = video_part(parts, rate) if flags & 2 else []
-    audio = audio_part(parts) if flags & 1 else []
+    audio = audio_part(parts, rate) if flags & 1 else []
     if parts.data:
         raise Refused(28)
     return Contents(data[1], rate, name, video, audio)

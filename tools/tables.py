@@ -15,7 +15,8 @@ import fractions
 # `starts` has the first monitored line of each field, `rates` the codes that the format takes. A picture of `rows` rows lies on the
 # raster's active lines: `active` has for each field the line that its first row lies on, and which row of the picture that is.
 Format = collections.namedtuple("Format", "number name width lines starts step rates rows active")
-Rate = collections.namedtuple("Rate", "code name hertz interval")
+# `cadence` has the bytes of each frame from frame 1 on, after which it starts again.
+Rate = collections.namedtuple("Rate", "code name hertz interval cadence")
 Mix = collections.namedtuple("Mix", "type name channels layout")
 
 ANY = tuple(range(2, 12))
@@ -37,20 +38,26 @@ FORMATS = [
     Format(7, "4096x2160p", 4096, 2250, (412,), 92, ANY, 2160, ((83, 0),)),
 ]
 
-# 01, "Audio: mix, filters, bits": code, rate, D.
+
+def cadence(length, usual, other, at):
+    """So many frames of `usual` bytes, but `other` at these, which count from 1."""
+    return tuple(other if frame in at else usual for frame in range(1, length + 1))
+
+
+# 01, "Audio: mix, filters, bits": code, rate, D, bytes per frame.
 RATES = {
-    code: Rate(code, name, fractions.Fraction(frames, seconds), interval)
-    for code, name, frames, seconds, interval in [
-        (2, "23.98", 24000, 1001, 52),
-        (3, "24", 24, 1, 50),
-        (4, "47.95", 48000, 1001, 52),
-        (5, "25", 25, 1, 50),
-        (6, "29.97", 30000, 1001, 52),
-        (7, "30", 30, 1, 50),
-        (8, "48", 48, 1, 50),
-        (9, "50", 50, 1, 50),
-        (10, "59.94", 60000, 1001, 52),
-        (11, "60", 60, 1, 50),
+    code: Rate(code, name, fractions.Fraction(frames, seconds), interval, row)
+    for code, name, frames, seconds, interval, row in [
+        (2, "23.98", 24000, 1001, 52, cadence(16, 5, 4, (1, 6, 11))),
+        (3, "24", 24, 1, 50, (5,)),
+        (4, "47.95", 48000, 1001, 52, cadence(32, 2, 3, (3, 5, 8, 10, 13, 15, 18, 20, 23, 25, 28, 30, 32))),
+        (5, "25", 25, 1, 50, (4, 5, 5, 5, 5)),
+        (6, "29.97", 30000, 1001, 52, cadence(20, 4, 3, (1, 7, 14))),
+        (7, "30", 30, 1, 50, (4,)),
+        (8, "48", 48, 1, 50, (2, 3)),
+        (9, "50", 50, 1, 50, (2, 2, 3, 2, 3)),
+        (10, "59.94", 60000, 1001, 52, cadence(40, 2, 1, (1, 14, 27))),
+        (11, "60", 60, 1, 50, (2,)),
     ]
 }
 

@@ -129,7 +129,27 @@ impl Rate {
             self.usual_bytes
         }
     }
+
+    /// Whether some frame of the cadence has this many bytes (02, A2: "that count occurs in the cadence").
+    pub fn cadence_has(&self, bytes: usize) -> bool {
+        (0..self.cadence_length).any(|frame| self.bytes_due(frame) == bytes)
+    }
 }
+
+/// The byte counts that occur in each rate's row of 01's table (000, Table 13), written out by hand.
+#[cfg(test)]
+pub const COUNTS_BY_HAND: [(u8, &[usize]); 10] = [
+    (2, &[4, 5]),
+    (3, &[5]),
+    (4, &[2, 3]),
+    (5, &[4, 5]),
+    (6, &[3, 4]),
+    (7, &[4]),
+    (8, &[2, 3]),
+    (9, &[2, 3]),
+    (10, &[1, 2]),
+    (11, &[2]),
+];
 
 #[cfg(test)]
 mod tests {
@@ -217,6 +237,25 @@ mod tests {
                 assert_eq!(rate.bytes_due(frame), column[frame % column.len()], "code {code} frame {frame}");
             }
         }
+    }
+
+    /// 02, A2. AFDataCount has five bits.
+    #[test]
+    fn the_counts_that_occur_in_each_cadence() {
+        for (code, counts) in COUNTS_BY_HAND {
+            let rate = Rate::coded(code).unwrap();
+            for count in 0..=31 {
+                assert_eq!(rate.cadence_has(count), counts.contains(&count), "code {code} count {count}");
+            }
+        }
+        assert_eq!(RATES.each_ref().map(|rate| rate.code), COUNTS_BY_HAND.map(|(code, _)| code));
+    }
+
+    /// So that 01's "that many bytes (1 to 5)" still holds.
+    #[test]
+    fn every_count_of_a_cadence_is_1_to_5() {
+        let counts = (0..=31).filter(|&count| RATES.iter().any(|rate| rate.cadence_has(count)));
+        assert_eq!(counts.collect::<Vec<_>>(), [1, 2, 3, 4, 5]);
     }
 
     /// A cadence gives the bytes that 48,000 samples a second make: sum x 8 D = frames x 48,000 / rate (000, Table 3).

@@ -143,6 +143,7 @@ impl Running {
 mod tests {
     use super::*;
     use crate::float::bits_of_ratio;
+    use crate::formats::RATES;
 
     const NAN: u32 = 0x7F80_0001;
 
@@ -211,6 +212,24 @@ mod tests {
         let running = session.0.as_ref().unwrap();
         assert_eq!(running.bytes_due(), 5);
         assert_eq!((running.sounds[0].held_bits(), running.sounds[1].held_bits()), (8, 0));
+    }
+
+    /// 02, A2 adds no number to Pack: what a session packs has one count of the cadence, and is read. 41 frames are one
+    /// more than the longest cadence.
+    #[test]
+    fn what_is_packed_is_read_at_every_frame_of_every_cadence() {
+        for rate in &RATES {
+            let mut session = setup(2, rate.code, &[1, 2]).unwrap();
+            for frame in 0..41 {
+                let due = rate.bytes_due(frame);
+                session.sound(0, &vec![0; 2 * rate.decimator * 8 * due]).unwrap();
+                session.sound(1, &vec![0; 4 * rate.decimator * 8 * due]).unwrap();
+                run_frame(&mut session);
+                let contents = container::read(&session.pack(&[], 255).unwrap()).unwrap();
+                let counts = contents.audio[..2].iter().map(|place| usize::from(place.count));
+                assert_eq!((contents.audio_count, counts.collect()), (2, vec![due, due]), "code {}", rate.code);
+            }
+        }
     }
 
     /// Two video values from the second frame on, where the cadence of 25 Hz asks for 5 bytes (02, A7).

@@ -5,6 +5,7 @@ use mathlib.Core.Path.{_≡_, refl, ap, _∙_}
 use mathlib.Core.Bool.{Bool, true, false}
 use native.Mathlib.Omega.{arith}
 use native.Mathlib.Numerals.{add-one}
+use native.Mathlib.Nat.{suc-mul, mul-le-mul-right}
 use lib.ListN.{length, getD, take, length-append}
 use lib.Seq.{length-take-le, take-suc}
 use Rattle.laws.specs.Sums.{sum}
@@ -15,7 +16,7 @@ use Rattle.container.specs.declared.Contents.{Contents}
 use Rattle.container.specs.Contents.{blankPrint}
 use Rattle.container.specs.Bytes.{idBytes, videoBytes, printBytes, runBytes, audioBytes, partBytes, frontBytes, checkByte, encode}
 use Rattle.container.specs.Sizes.{Sized}
-use Rattle.container.specs.Writing.{RunFits, Fits}
+use Rattle.container.specs.Writing.{Fits}
 
 pub print-length : (p : Print) → p .size ≤ length (p .bytes) → length (printBytes p) ≡ p .size + 2
 unfolding printBytes
@@ -66,20 +67,22 @@ video-at-most Absent = omega arith
 video-at-most (One a) = omega arith
 video-at-most (Two a b) = omega arith
 
-module _ (n : ℕ) (ps : List Print) (f : RunFits n ps) (l : n ≤ length ps) where
-  run-at-most : (k : ℕ) → k ≤ n → length (runBytes (take k ps)) ≤ 7 * k
+-- fingerprints of m bytes at most
+module _ (m n : ℕ) (ps : List Print) (each : (k : ℕ) → k < n → getD ps k blankPrint .size ≤ m) (l : n ≤ length ps) where
+  run-at-most : (k : ℕ) → k ≤ n → length (runBytes (take k ps)) ≤ k * (2 + m)
   unfolding runBytes
   run-at-most zero h = omega arith
   run-at-most (suc k) h =
-      let m = run-at-most k (omega arith) in
+      let r = run-at-most k (omega arith) in
       let e : length (runBytes (take (suc k) ps)) ≡ length (runBytes (take k ps)) + length (printBytes (getD ps k blankPrint)) =
       rw (← add-one k) (run-longer ps k blankPrint (omega arith)) in
-      omega (arith, print-at-most (getD ps k blankPrint), f .each k (omega arith) .five)
+      rw (suc-mul k (2 + m)) (omega (arith, print-at-most (getD ps k blankPrint), each k (omega arith)))
 
-audio-at-most : (n : ℕ) (ps : List Print) → RunFits n ps → n ≤ length ps → length (audioBytes n ps) ≤ 225
+pub audio-at-most : (m n : ℕ) (ps : List Print) → ((k : ℕ) → k < n → getD ps k blankPrint .size ≤ m) → n ≤ 32 → n ≤ length ps
+    → length (audioBytes n ps) ≤ 1 + 32 * (2 + m)
 unfolding audioBytes
-audio-at-most zero ps f l = omega arith
-audio-at-most (suc n) ps f l = let many = f .many in omega (arith, run-at-most (suc n) ps f l (suc n) (omega arith))
+audio-at-most m zero ps each h l = omega arith
+audio-at-most m (suc n) ps each h l = omega (arith, run-at-most m (suc n) ps each l (suc n) (omega arith), mul-le-mul-right {m = suc n} {n = 32} (2 + m) h)
 
 parts-length : (c : Contents)
     → length (partBytes c) ≡ length (idBytes (c .hasid) (c .id)) + length (videoBytes (c .video)) + length (audioBytes (c .count) (c .prints))
@@ -104,7 +107,7 @@ sized c s f = record {
   whole = omega (arith, encode-length c, parts-length c);
   id = id-at-most (c .hasid) (c .id) (s .id);
   video = video-at-most (c .video);
-  audio = audio-at-most (c .count) (c .prints) (f .run) (omega (arith, f .run .many, s .prints));
+  audio = audio-at-most 5 (c .count) (c .prints) (λ k h. f .run .each k h .five) (f .run .many) (omega (arith, f .run .many, s .prints));
 }
 
 pub at-most-254 : (c : Contents) → Sized c → length (encode c) ≤ 4 + 21 + 3 + 225 + 1

@@ -12,10 +12,12 @@ use Rattle.laws.specs.Sums.{sum}
 use Rattle.laws.proofs.Tests.{tests, both, past, chosen, held}
 use Rattle.rates.specs.Rates.{rateListed, twoFields}
 use Rattle.rates.specs.Mixes.{mixListed}
+use Rattle.rates.specs.Cadence.{countOccurs}
 use Rattle.container.specs.declared.IdPart.{IdPart}
 use Rattle.container.specs.declared.VideoPart.{VideoPart}
 use Rattle.container.specs.declared.PrintPart.{PrintPart}
 use Rattle.container.specs.declared.AudioPart.{AudioPart}
+use Rattle.container.specs.Contents.{sameCount}
 use Rattle.container.specs.Parts.{noPrint, idPart, oneField, bothFields, videoPart, printPart, printAt, runOf, audioOf, audioPart}
 use Rattle.container.specs.Reading.{headerNumber, refusal, partsSay, partsJoined, idIn, videoIn, audioIn, partsReading}
 
@@ -62,58 +64,53 @@ header-0 s r =
 
 -- ---- one fingerprint
 
-pub record PrintRight (b : List ℕ) : Type 0 where
+pub record PrintRight (rate : ℕ) (b : List ℕ) : Type 0 where
   pub two : 2 ≤ length b
   pub mix : mixListed (getD b 0 0 % 8) ≡ true
   pub low : getD b 1 0 % 8 ≡ 0
-  pub some : 1 ≤ getD b 1 0 / 8
-  pub five : getD b 1 0 / 8 ≤ 5
+  pub occurs : countOccurs rate (getD b 1 0 / 8) ≡ true
   pub fits : getD b 1 0 / 8 + 2 ≤ length b
 
-pub print-is : (b : List ℕ) → PrintRight b → printPart b ≡ printAt b
+pub print-is : (rate : ℕ) (b : List ℕ) → PrintRight rate b → printPart rate b ≡ printAt b
 unfolding printPart
-print-is b r =
+print-is rate b r =
     let two = r .two in
     let low = r .low in
-    let some = r .some in
-    let five = r .five in
     let fits = r .fits in
-    simp (tests, r .mix)
+    simp (tests, r .mix, r .occurs)
 
 print-held : (t : Bool) (x : PrintPart) → cond t x noPrint .ok ≡ true → (t ≡ true) × (x .ok ≡ true)
 print-held t x e = held (λ (p : PrintPart). p .ok ≡ true) t x noPrint e false≢true
 
-pub print-right : (b : List ℕ) → printPart b .ok ≡ true → PrintRight b
+pub print-right : (rate : ℕ) (b : List ℕ) → printPart rate b .ok ≡ true → PrintRight rate b
 unfolding printPart
-print-right b e =
+print-right rate b e =
     let q₁ = print-held (leb 2 (length b)) _ e in
     let q₂ = print-held (mixListed (getD b 0 0 % 8)) _ (q₁ .1) in
     let q₃ = print-held (eqb (getD b 1 0 % 8) 0) _ (q₂ .1) in
-    let q₄ = print-held (leb 1 (getD b 1 0 / 8)) _ (q₃ .1) in
-    let q₅ = print-held (leb (getD b 1 0 / 8) 5) _ (q₄ .1) in
-    let q₆ = print-held (leb (getD b 1 0 / 8 + 2) (length b)) _ (q₅ .1) in
+    let q₄ = print-held (countOccurs rate (getD b 1 0 / 8)) _ (q₃ .1) in
+    let q₅ = print-held (leb (getD b 1 0 / 8 + 2) (length b)) _ (q₄ .1) in
     record {
       two = leb-true _ _ (q₁ .0);
       mix = q₂ .0;
       low = eqb-true _ _ (q₃ .0);
-      some = leb-true _ _ (q₄ .0);
-      five = leb-true _ _ (q₅ .0);
-      fits = leb-true _ _ (q₆ .0);
+      occurs = q₄ .0;
+      fits = leb-true _ _ (q₅ .0);
     }
 
 -- ---- no part takes more bytes than there are
 
-pub print-used : (b : List ℕ) → printPart b .ok ≡ true → printPart b .used ≤ length b
+pub print-used : (rate : ℕ) (b : List ℕ) → printPart rate b .ok ≡ true → printPart rate b .used ≤ length b
 unfolding printAt
-print-used b e = let r = print-right b e in rw (print-is b r) (r .fits)
+print-used rate b e = let r = print-right rate b e in rw (print-is rate b r) (r .fits)
 
-pub run-used : (n : ℕ) (b : List ℕ) → runOf n b .ok ≡ true → runOf n b .used ≤ length b
+pub run-used : (rate n : ℕ) (b : List ℕ) → runOf rate n b .ok ≡ true → runOf rate n b .used ≤ length b
 unfolding runOf
-run-used zero b e = omega arith
-run-used (suc n) b e =
+run-used rate zero b e = omega arith
+run-used rate (suc n) b e =
     let q = both _ _ e in
-    let u = print-used b (q .0) in
-    let r = run-used n (drop (printPart b .used) b) (q .1) in
+    let u = print-used rate b (q .0) in
+    let r = run-used rate n (drop (printPart rate b .used) b) (q .1) in
     omega (arith, rw length-drop at r)
 
 pub id-used : (flag : ℕ) (b : List ℕ) → idPart flag b .used ≤ length b
@@ -141,17 +138,18 @@ video-used flag rate b =
     (λ _. chosen P (leb (getD b 2 0) 240) _ _ (λ _. leb-true _ _ e₃) (λ _. none)) (λ _. none)) (λ _. none)) (λ _. none)) (λ _. none)))
     (λ _. none))
 
-pub audio-used : (flag : ℕ) (b : List ℕ) → audioPart flag b .used ≤ length b
+pub audio-used : (flag rate : ℕ) (b : List ℕ) → audioPart flag rate b .used ≤ length b
 unfolding audioPart audioOf
-audio-used flag b =
+audio-used flag rate b =
     let P : AudioPart → Type 0 = λ p. p .used ≤ length b in
     let none : 0 ≤ length b = omega arith in
     let n = getD b 0 0 / 8 + 1 in
     chosen P (eqb flag 0) _ _ (λ _. none)
     (λ _. chosen P (leb 1 (length b)) _ _
     (λ e. chosen P (eqb (getD b 0 0 % 8) 2) _ _
-    (λ _. chosen P (runOf n (drop 1 b) .ok) _ _
-    (λ r. let u = run-used n (drop 1 b) r in omega (arith, rw length-drop at u, leb-true 1 (length b) e)) (λ _. none)) (λ _. none))
+    (λ _. chosen P (runOf rate n (drop 1 b) .ok) _ _
+    (λ r. chosen P (sameCount (runOf rate n (drop 1 b) .list)) _ _
+    (λ _. let u = run-used rate n (drop 1 b) r in omega (arith, rw length-drop at u, leb-true 1 (length b) e)) (λ _. none)) (λ _. none)) (λ _. none))
     (λ _. none))
 
 -- ---- the outcome from the parts' outcomes
@@ -166,7 +164,7 @@ module _ (counter flags : ℕ) (b : List ℕ) (i : IdPart) (ei : i ≡ idIn flag
     unfolding partsReading partsJoined
     parts-26 f = rw (← ei, ← ev, fi, f)
 
-    module _ (fv : v .ok ≡ true) (a : AudioPart) (ea : a ≡ audioPart (flags % 2) (drop (i .used + v .used) b)) where
+    module _ (fv : v .ok ≡ true) (a : AudioPart) (ea : a ≡ audioPart (flags % 2) (flags / 16) (drop (i .used + v .used) b)) where
       pub parts-27 : a .ok ≡ false → partsReading counter flags b ≡ refusal 27
       unfolding partsReading partsJoined
       parts-27 f = rw (← ei, ← ev, ← ea, fi, fv, f)

@@ -20,45 +20,45 @@ fill-step d z s i x hz hs e =
     (set-at (take i s) (getD z i d) (drop (suc i) z) (getD s i d) i (length-take-le i s (le-of-lt hs))
     ∙ sym (append-snoc (take i s) (getD s i d) (drop (suc i) z)))
 
-pub run-length : (n : ℕ) (b : List ℕ) → length (runOf n b .list) ≡ n
+pub run-length : (rate n : ℕ) (b : List ℕ) → length (runOf rate n b .list) ≡ n
 unfolding runOf
-run-length zero b = refl
-run-length (suc n) b = ap suc (run-length n (drop (printPart b .used) b))
+run-length rate zero b = refl
+run-length rate (suc n) b = ap suc (run-length rate n (drop (printPart rate b .used) b))
 
 -- k fingerprints of n are read, and p bytes passed: what is left of the run
-pub record Going (n : ℕ) (b : List ℕ) (k p : ℕ) : Type 0 where
-  pub ok : runOf n b .ok ≡ runOf (n - k) (drop p b) .ok
-  pub used : runOf n b .used ≡ p + runOf (n - k) (drop p b) .used
-  pub list : drop k (runOf n b .list) ≡ runOf (n - k) (drop p b) .list
+pub record Going (rate n : ℕ) (b : List ℕ) (k p : ℕ) : Type 0 where
+  pub ok : runOf rate n b .ok ≡ runOf rate (n - k) (drop p b) .ok
+  pub used : runOf rate n b .used ≡ p + runOf rate (n - k) (drop p b) .used
+  pub list : drop k (runOf rate n b .list) ≡ runOf rate (n - k) (drop p b) .list
 
-pub going-start : (n : ℕ) (b : List ℕ) → Going n b 0 0
-going-start n b = record { ok = rw sub-zero; used = rw (sub-zero, zero-add); list = rw sub-zero }
+pub going-start : (rate n : ℕ) (b : List ℕ) → Going rate n b 0 0
+going-start rate n b = record { ok = rw sub-zero; used = rw (sub-zero, zero-add); list = rw sub-zero }
 
-module _ (n : ℕ) (b : List ℕ) (k p : ℕ) (g : Going n b k p) (h : k < n) where
-  next : runOf (n - k) (drop p b) ≡ then (printPart (drop p b)) (runOf (n - (k + 1)) (drop (printPart (drop p b) .used) (drop p b)))
+module _ (rate n : ℕ) (b : List ℕ) (k p : ℕ) (g : Going rate n b k p) (h : k < n) where
+  next : runOf rate (n - k) (drop p b) ≡ then (printPart rate (drop p b)) (runOf rate (n - (k + 1)) (drop (printPart rate (drop p b) .used) (drop p b)))
   unfolding runOf
   next = let e : n - k ≡ suc (n - (k + 1)) = omega arith in rw e
 
-  pub going-bad : printPart (drop p b) .ok ≡ false → runOf n b .ok ≡ false
+  pub going-bad : printPart rate (drop p b) .ok ≡ false → runOf rate n b .ok ≡ false
   going-bad e = g .ok ∙ rw (next, e)
 
-  pub going-step : printPart (drop p b) .ok ≡ true → Going n b (k + 1) (p + printPart (drop p b) .used)
+  pub going-step : printPart rate (drop p b) .ok ≡ true → Going rate n b (k + 1) (p + printPart rate (drop p b) .used)
   going-step e =
       record {
         ok = g .ok ∙ rw (next, e, drop-drop);
         used = g .used ∙ rw (next, drop-drop) (omega arith);
-        list = sym (drop-drop 1 k (runOf n b .list)) ∙ ap (drop 1) (g .list) ∙ rw (next, drop-drop);
+        list = sym (drop-drop 1 k (runOf rate n b .list)) ∙ ap (drop 1) (g .list) ∙ rw (next, drop-drop);
       }
 
-  pub going-print : getD (runOf n b .list) k blankPrint ≡ printPart (drop p b) .print
-  going-print = rw (← add-zero k, ← getD-drop k (runOf n b .list) 0 blankPrint, g .list, next)
+  pub going-print : getD (runOf rate n b .list) k blankPrint ≡ printPart rate (drop p b) .print
+  going-print = rw (← add-zero k, ← getD-drop k (runOf rate n b .list) 0 blankPrint, g .list, next)
 
 -- a run that is read to its end
-pub going-end : (n : ℕ) (b : List ℕ) (k p : ℕ) → Going n b k p → n ≤ k → (runOf n b .ok ≡ true) × (runOf n b .used ≡ p)
+pub going-end : (rate n : ℕ) (b : List ℕ) (k p : ℕ) → Going rate n b k p → n ≤ k → (runOf rate n b .ok ≡ true) × (runOf rate n b .used ≡ p)
 unfolding runOf
-going-end n b k p g h =
+going-end rate n b k p g h =
     let e : n - k ≡ 0 = omega arith in
     (g .ok ∙ rw e, g .used ∙ rw e (add-zero p))
 
-pub run-prints : (n : ℕ) (b : List ℕ) (k : ℕ) (z : List Print) → n ≡ k → take k (runOf n b .list) ++ drop k z ≡ runOf n b .list ++ drop n z
-run-prints n b k z e = rw (← e, take-all n (runOf n b .list) (le-of-eq (run-length n b)))
+pub run-prints : (rate n : ℕ) (b : List ℕ) (k : ℕ) (z : List Print) → n ≡ k → take k (runOf rate n b .list) ++ drop k z ≡ runOf rate n b .list ++ drop n z
+run-prints rate n b k z e = rw (← e, take-all n (runOf rate n b .list) (le-of-eq (run-length rate n b)))

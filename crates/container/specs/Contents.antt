@@ -1,8 +1,9 @@
--- Contents that say nothing: "absent parts and unused places are zero", and "a refused reading's contents are all zero, with no video" (01).
+-- Contents that say nothing: "absent parts and unused places are zero", and "a refused reading's contents are all zero, with no video" (01); and fingerprints of one count.
 use Prim.Native.Nat.{ℕ}
-use mathlib.Core.List.{List}
-use lib.ListN.{drop, replicate}
-use mathlib.Core.Bool.{false}
+use mathlib.Core.List.{List, [], _∷_}
+use lib.Dec.{eqb}
+use lib.ListN.{getD, drop, replicate}
+use mathlib.Core.Bool.{Bool, true, false, _&&_}
 use Rattle.container.specs.declared.Print.{Print}
 use Rattle.laws.specs.declared.Video.the-variants.{Absent}
 use Rattle.container.specs.declared.Contents.{Contents}
@@ -25,3 +26,12 @@ emptyContents =
       count = 0;
       prints = replicate 32 blankPrint;
     }
+
+-- fingerprints of n bytes each
+unfoldable pub allCarry : ℕ → List Print → Bool
+allCarry n [] = true
+allCarry n (p ∷ ps) = eqb (p .size) n && allCarry n ps
+
+-- "every fingerprint of a container carries the same count" (02, A2): that of the first
+unfoldable pub sameCount : List Print → Bool
+sameCount ps = allCarry (getD ps 0 blankPrint .size) ps

@@ -7,6 +7,7 @@ use lib.ListN.{length, getD, take, drop, replicate}
 use lib.Dec.{leb, eqb}
 use Rattle.laws.specs.Calls.{over}
 use Rattle.rates.specs.Rates.{twoFields}
+use Rattle.rates.specs.Cadence.{countOccurs}
 use Rattle.rates.specs.Mixes.{mixListed}
 use Rattle.laws.specs.declared.Video.{Video}
 use Rattle.laws.specs.declared.Video.the-variants.{Absent, One, Two}
@@ -15,7 +16,7 @@ use Rattle.container.specs.declared.IdPart.{IdPart}
 use Rattle.container.specs.declared.VideoPart.{VideoPart}
 use Rattle.container.specs.declared.PrintPart.{PrintPart}
 use Rattle.container.specs.declared.AudioPart.{AudioPart}
-use Rattle.container.specs.Contents.{blankPrint, blanks}
+use Rattle.container.specs.Contents.{blankPrint, blanks, sameCount}
 
 -- ---- ID: byte 00h, then 20 bytes
 
@@ -58,7 +59,8 @@ videoPart flag rate b =
     (cond (eqb (getD b 0 0) 0x11) (bothFields rate b)
     noVideo)) noVideo)
 
--- ---- Audio: (count - 1) x 8 + 2; then for each fingerprint ID x 8 + mix type, AFDataCount x 8, and that many bytes (1 to 5); 27 also covers a mix type other than 1, 2, 5
+-- ---- Audio: (count - 1) x 8 + 2; then for each fingerprint ID x 8 + mix type, AFDataCount x 8, and that many bytes; 27 also covers a mix type other than 1, 2, 5
+-- and, in place of 01's "(1 to 5)": "every fingerprint of a container carries the same count, and that count occurs in the cadence of the container's rate" (02, A2)
 
 abbrev pub noPrint : PrintPart
 noPrint = record { ok = false; used = 0; print = blankPrint }
@@ -77,16 +79,15 @@ printAt b =
       };
     }
 
-unfoldable pub printPart : List ℕ → PrintPart
-printPart b =
+unfoldable pub printPart : ℕ → List ℕ → PrintPart
+printPart rate b =
     cond (leb 2 (length b))
     (cond (mixListed (getD b 0 0 % 8))
     (cond (eqb (getD b 1 0 % 8) 0)
-    (cond (leb 1 (getD b 1 0 / 8))
-    (cond (leb (getD b 1 0 / 8) 5)
+    (cond (countOccurs rate (getD b 1 0 / 8))
     (cond (leb (getD b 1 0 / 8 + 2) (length b))
     (printAt b)
-    noPrint) noPrint) noPrint) noPrint) noPrint) noPrint
+    noPrint) noPrint) noPrint) noPrint) noPrint
 
 -- fingerprints one after the other
 pub record Run : Type 0 where
@@ -98,9 +99,9 @@ pub record Run : Type 0 where
 abbrev pub then : PrintPart → Run → Run
 then p r = record { ok = p .ok && r .ok; used = p .used + r .used; list = p .print ∷ r .list }
 
-unfoldable pub runOf : ℕ → List ℕ → Run
-runOf zero b = record { ok = true; used = 0; list = [] }
-runOf (suc n) b = then (printPart b) (runOf n (drop (printPart b .used) b))
+unfoldable pub runOf : ℕ → ℕ → List ℕ → Run
+runOf rate zero b = record { ok = true; used = 0; list = [] }
+runOf rate (suc n) b = then (printPart rate b) (runOf rate n (drop (printPart rate b .used) b))
 
 abbrev pub noAudio : AudioPart
 noAudio = record { ok = false; used = 0; count = 0; prints = replicate 32 blankPrint }
@@ -109,13 +110,14 @@ noAudio = record { ok = false; used = 0; count = 0; prints = replicate 32 blankP
 unfoldable pub audioOf : ℕ → Run → AudioPart
 audioOf n r =
     cond (r .ok)
+    (cond (sameCount (r .list))
     (record { ok = true; used = r .used + 1; count = n; prints = r .list ++ blanks n })
-    noAudio
+    noAudio) noAudio
 
-unfoldable pub audioPart : ℕ → List ℕ → AudioPart
-audioPart flag b =
+unfoldable pub audioPart : ℕ → ℕ → List ℕ → AudioPart
+audioPart flag rate b =
     cond (eqb flag 0) (record { ok = true; used = 0; count = 0; prints = replicate 32 blankPrint })
     (cond (leb 1 (length b))
     (cond (eqb (getD b 0 0 % 8) 2)
-    (audioOf (getD b 0 0 / 8 + 1) (runOf (getD b 0 0 / 8 + 1) (drop 1 b)))
+    (audioOf (getD b 0 0 / 8 + 1) (runOf rate (getD b 0 0 / 8 + 1) (drop 1 b)))
     noAudio) noAudio)

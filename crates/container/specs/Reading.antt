@@ -64,7 +64,7 @@ abbrev pub videoIn : ℕ → List ℕ → VideoPart
 videoIn flags b = videoPart (flags / 2 % 2) (flags / 16) (drop (idIn flags b .used) b)
 
 abbrev pub audioIn : ℕ → List ℕ → AudioPart
-audioIn flags b = audioPart (flags % 2) (drop (idIn flags b .used + videoIn flags b .used) b)
+audioIn flags b = audioPart (flags % 2) (flags / 16) (drop (idIn flags b .used + videoIn flags b .used) b)
 
 unfoldable pub partsReading : ℕ → ℕ → List ℕ → Reading
 partsReading counter flags b = partsJoined counter flags b (idIn flags b) (videoIn flags b) (audioIn flags b)

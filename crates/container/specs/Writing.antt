@@ -2,17 +2,18 @@
 use Prim.Native.Nat.{ℕ, zero, suc, _≤_, _<_}
 use mathlib.Core.List.{List, [], _∷_}
 use mathlib.Core.Bool.{Bool, true, cond, _&&_}
-use lib.ListN.{length, getD, drop}
+use lib.ListN.{length, getD, take, drop}
 use lib.Dec.{leb, eqb}
 use Rattle.laws.specs.Calls.{unless, roomNumber, doneWith, outWith}
 use Rattle.laws.specs.declared.Done.{Done}
 use Rattle.rates.specs.Rates.{rateListed, twoFields}
+use Rattle.rates.specs.Cadence.{countOccurs}
 use Rattle.rates.specs.Mixes.{mixListed}
 use Rattle.laws.specs.declared.Video.{Video}
 use Rattle.laws.specs.declared.Video.the-variants.{Absent, One, Two}
 use Rattle.container.specs.declared.Print.{Print}
 use Rattle.container.specs.declared.Contents.{Contents}
-use Rattle.container.specs.Contents.{blankPrint}
+use Rattle.container.specs.Contents.{blankPrint, sameCount}
 use Rattle.container.specs.Bytes.{encode}
 
 unfoldable pub allZero : List ℕ → Bool
@@ -29,23 +30,22 @@ videoReadable rate Absent = true
 videoReadable rate (One a) = leb a 240
 videoReadable rate (Two a b) = leb a 240 && (leb b 240 && twoFields rate)
 
--- an ID of five bits, a listed mix type, 1 to 5 bytes, zeros after them
-unfoldable pub printReadable : Print → Bool
-printReadable p =
+-- an ID of five bits, a listed mix type, a count that occurs in the rate's cadence, zeros after that many bytes
+unfoldable pub printReadable : ℕ → Print → Bool
+printReadable rate p =
     leb (p .id) 31
     && (mixListed (p .mix)
-    && (leb 1 (p .size)
-    && (leb (p .size) 5
-    && allZero (drop (p .size) (p .bytes)))))
+    && (countOccurs rate (p .size)
+    && allZero (drop (p .size) (p .bytes))))
 
 unfoldable pub printBlank : Print → Bool
 printBlank p = eqb (p .id) 0 && (eqb (p .mix) 0 && (eqb (p .size) 0 && allZero (p .bytes)))
 
 -- n fingerprints, and blank places after them
-unfoldable pub printsReadable : ℕ → List Print → Bool
-printsReadable n [] = true
-printsReadable zero (p ∷ ps) = printBlank p && printsReadable zero ps
-printsReadable (suc n) (p ∷ ps) = printReadable p && printsReadable n ps
+unfoldable pub printsReadable : ℕ → ℕ → List Print → Bool
+printsReadable rate n [] = true
+printsReadable rate zero (p ∷ ps) = printBlank p && printsReadable rate zero ps
+printsReadable rate (suc n) (p ∷ ps) = printReadable rate p && printsReadable rate n ps
 
 -- contents that some reading gives
 unfoldable pub readable : Contents → Bool
@@ -54,7 +54,8 @@ readable c =
     && (idReadable (c .hasid) (c .id)
     && (videoReadable (c .rate) (c .video)
     && (leb (c .count) 32
-    && printsReadable (c .count) (c .prints))))
+    && (printsReadable (c .rate) (c .count) (c .prints)
+    && sameCount (take (c .count) (c .prints))))))
 
 -- "29 contents that no reading gives"
 unfoldable pub contentsNumber : Contents → ℕ

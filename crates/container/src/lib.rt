@@ -1,9 +1,9 @@
 // A container: what it says, read from its bytes and written to them (01, The container; 000, 6).
 ghost use mathlib.Core.Path.{_≡_};
-ghost use Prim.Native.Nat.{_%_};
-ghost use lib.ListN.{length};
+ghost use Prim.Native.Nat.{_%_, _≤_};
+ghost use lib.ListN.{length, take};
 ghost use Rattle.laws.specs.Sums.{sum};
-ghost use Rattle.container.specs.Contents.{blankPrint, emptyContents};
+ghost use Rattle.container.specs.Contents.{blankPrint, emptyContents, sameCount};
 ghost use Rattle.container.specs.Reading.{reading};
 ghost use Rattle.container.specs.Writing.{writeDone, writeOut};
 use laws::Done;
@@ -102,6 +102,23 @@ fn byte_sum(s: &[u8]) -> u8
         i += 1;
     }
     total as u8
+}
+
+// Whether the first n fingerprints carry the same count: "every fingerprint of a container" (02, A2).
+fn same_count(prints: [Print; 32], n: usize) -> bool
+    requires { ⌜ n ≤ 32 ⌝ }
+    ensures { λ r. ⌜ r ≡ sameCount (take n prints) ⌝ }
+{
+    let first = prints[0];
+    let mut k = 0;
+    while k < n {
+        let p = prints[k];
+        if p.size != first.size {
+            return false;
+        }
+        k += 1;
+    }
+    true
 }
 
 // Read container: 20 to 28.

@@ -155,8 +155,8 @@ fn no_print() -> PrintPart
 }
 
 // One fingerprint at the start of b.
-fn read_print(b: &[u8]) -> PrintPart
-    ensures { λ r. ⌜ r ≡ printPart (now (b .entry)) ⌝ }
+fn read_print(rate: u8, b: &[u8]) -> PrintPart
+    ensures { λ r. ⌜ r ≡ printPart rate (now (b .entry)) ⌝ }
 {
     if b.len() < 2 {
         return no_print();
@@ -170,10 +170,7 @@ fn read_print(b: &[u8]) -> PrintPart
         return no_print();
     }
     let size = counted / 8;
-    if size < 1 {
-        return no_print();
-    }
-    if 5 < size {
+    if !rates::count_occurs(rate, size) {
         return no_print();
     }
     let end = size as usize + 2;
@@ -207,16 +204,16 @@ fn no_audio() -> AudioPart
 }
 
 // n fingerprints at the start of b.
-fn read_run(n: usize, b: &[u8]) -> AudioPart
+fn read_run(rate: u8, n: usize, b: &[u8]) -> AudioPart
     requires { ⌜ n ≤ 32 ⌝ }
-    ensures { λ r. ⌜ r ≡ audioOf n (runOf n (now (b .entry))) ⌝ }
+    ensures { λ r. ⌜ r ≡ audioOf n (runOf rate n (now (b .entry))) ⌝ }
 {
     let none = blank_print();
     let mut prints = [none; 32];
     let mut at = 0;
     let mut k = 0;
     while k < n {
-        let part = read_print(&b[at..]);
+        let part = read_print(rate, &b[at..]);
         let ok = part.ok;
         if !ok {
             return no_audio();
@@ -227,6 +224,9 @@ fn read_run(n: usize, b: &[u8]) -> AudioPart
         at += used;
         k += 1;
     }
+    if !crate::same_count(prints, n) {
+        return no_audio();
+    }
     AudioPart {
         ok: true,
         used: at + 1,
@@ -235,8 +235,8 @@ fn read_run(n: usize, b: &[u8]) -> AudioPart
     }
 }
 
-fn read_audio(flag: u8, b: &[u8]) -> AudioPart
-    ensures { λ r. ⌜ r ≡ audioPart flag (now (b .entry)) ⌝ }
+fn read_audio(flag: u8, rate: u8, b: &[u8]) -> AudioPart
+    ensures { λ r. ⌜ r ≡ audioPart flag rate (now (b .entry)) ⌝ }
 {
     if flag == 0 {
         let none = blank_print();
@@ -254,7 +254,7 @@ fn read_audio(flag: u8, b: &[u8]) -> AudioPart
     if head % 8 != 2 {
         return no_audio();
     }
-    read_run((head / 8) as usize + 1, &b[1..])
+    read_run(rate, (head / 8) as usize + 1, &b[1..])
 }
 
 pub(crate) fn refused(n: u8) -> Reading
@@ -283,7 +283,7 @@ pub(crate) fn read_parts(counter: u8, flags: u8, b: &[u8]) -> Reading
         return refused(26);
     }
     let q = p + v.used;
-    let a = read_audio(flags % 2, &b[q..]);
+    let a = read_audio(flags % 2, flags / 16, &b[q..]);
     let audio_ok = a.ok;
     if !audio_ok {
         return refused(27);

@@ -52,8 +52,8 @@ fn video_readable(rate: u8, v: Video) -> bool
     }
 }
 
-fn print_readable(p: Print) -> bool
-    ensures { λ r. ⌜ r ≡ printReadable p ⌝ }
+fn print_readable(rate: u8, p: Print) -> bool
+    ensures { λ r. ⌜ r ≡ printReadable rate p ⌝ }
 {
     if 31 < p.id {
         return false;
@@ -63,10 +63,7 @@ fn print_readable(p: Print) -> bool
         return false;
     }
     let size = p.size;
-    if size < 1 {
-        return false;
-    }
-    if 5 < size {
+    if !rates::count_occurs(rate, size) {
         return false;
     }
     let bytes = p.bytes;
@@ -91,23 +88,23 @@ fn print_blank(p: Print) -> bool
 }
 
 // Place k of n: a fingerprint below n, blank from there on.
-fn place_readable(p: Print, k: usize, n: usize) -> bool
-    ensures { λ r. ⌜ r ≡ cond (ltb k n) (printReadable p) (printBlank p) ⌝ }
+fn place_readable(rate: u8, p: Print, k: usize, n: usize) -> bool
+    ensures { λ r. ⌜ r ≡ cond (ltb k n) (printReadable rate p) (printBlank p) ⌝ }
 {
     if k < n {
-        print_readable(p)
+        print_readable(rate, p)
     } else {
         print_blank(p)
     }
 }
 
-fn prints_readable(prints: [Print; 32], n: usize) -> bool
-    ensures { λ r. ⌜ r ≡ printsReadable n prints ⌝ }
+fn prints_readable(rate: u8, prints: [Print; 32], n: usize) -> bool
+    ensures { λ r. ⌜ r ≡ printsReadable rate n prints ⌝ }
 {
     let mut k = 0;
     while k < 32 {
         let p = prints[k];
-        if !place_readable(p, k, n) {
+        if !place_readable(rate, p, k, n) {
             return false;
         }
         k += 1;
@@ -136,5 +133,8 @@ pub(crate) fn readable(c: Contents) -> bool
         return false;
     }
     let prints = c.prints;
-    prints_readable(prints, n)
+    if !prints_readable(rate, prints, n) {
+        return false;
+    }
+    crate::same_count(prints, n)
 }

@@ -21,7 +21,7 @@ use Rattle.container.specs.declared.VideoPart.{VideoPart}
 use Rattle.container.specs.declared.PrintPart.{PrintPart}
 use Rattle.container.specs.declared.AudioPart.{AudioPart}
 use Rattle.container.specs.declared.Reading.{Reading}
-use Rattle.container.specs.Contents.{blankPrint}
+use Rattle.container.specs.Contents.{blankPrint, sameCount}
 use Rattle.container.specs.Bytes.{idBytes, videoBytes, printBytes, runBytes, audioBytes, videoFlag, audioFlag, partBytes, flagByte, frontBytes, checkByte, encode}
 use Rattle.container.specs.Parts.{noVideo, noId, noAudio, idPart, oneField, bothFields, videoPart, printPart, printAt, runOf, audioOf, audioPart}
 use Rattle.container.specs.Reading.{headerNumber, refusal, partsSay, partsJoined, idIn, videoIn, audioIn, partsReading, middle, reading}
@@ -83,34 +83,34 @@ video-back flag rate b h =
     (λ _. bad)) (λ _. bad)) (λ _. bad)) (λ _. bad)) (λ _. bad)))
     (λ _. bad))
 
-print-back : (b : List ℕ) → PrintRight b → printBytes (printAt b .print) ≡ take (printAt b .used) b
+print-back : (rate : ℕ) (b : List ℕ) → PrintRight rate b → printBytes (printAt b .print) ≡ take (printAt b .used) b
 unfolding printBytes printAt over
-print-back [] r = absurd (let z : ⊥ = omega (arith, r .two) in z)
-print-back (x ∷ []) r = absurd (let z : ⊥ = omega (arith, r .two) in z)
-print-back (x ∷ y ∷ b) r =
+print-back rate [] r = absurd (let z : ⊥ = omega (arith, r .two) in z)
+print-back rate (x ∷ []) r = absurd (let z : ⊥ = omega (arith, r .two) in z)
+print-back rate (x ∷ y ∷ b) r =
     let ex : x / 8 * 8 + x % 8 ≡ x = omega arith in
     let ey : y / 8 * 8 ≡ y = omega (arith, r .low) in
     let e : length (take (y / 8) b) ≡ y / 8 = length-take-le (y / 8) b (omega (arith, r .fits)) in
     let t : take (y / 8) (take (y / 8) b ++ drop (length (take (y / 8) b)) (replicate 5 0)) ≡ take (y / 8) b = take-at _ _ _ e in
     rw (ex, ey, add-two, t)
 
-run-back : (n : ℕ) (b : List ℕ) → runOf n b .ok ≡ true → runBytes (runOf n b .list) ≡ take (runOf n b .used) b
+run-back : (rate n : ℕ) (b : List ℕ) → runOf rate n b .ok ≡ true → runBytes (runOf rate n b .list) ≡ take (runOf rate n b .used) b
 unfolding runOf runBytes
-run-back zero b e = refl
-run-back (suc n) b e =
+run-back rate zero b e = refl
+run-back rate (suc n) b e =
     let q = both _ _ e in
-    let r = print-right b (q .0) in
-    let i = run-back n (drop (printPart b .used) b) (q .1) in
-    let p : printBytes (printPart b .print) ≡ take (printPart b .used) b =
-    ap (λ (g : PrintPart). printBytes (g .print)) (print-is b r) ∙ print-back b r ∙ ap (λ (g : PrintPart). take (g .used) b) (sym (print-is b r)) in
-    rw (p, i) (sym (take-add (printPart b .used) (runOf n (drop (printPart b .used) b) .used) b))
+    let r = print-right rate b (q .0) in
+    let i = run-back rate n (drop (printPart rate b .used) b) (q .1) in
+    let p : printBytes (printPart rate b .print) ≡ take (printPart rate b .used) b =
+    ap (λ (g : PrintPart). printBytes (g .print)) (print-is rate b r) ∙ print-back rate b r ∙ ap (λ (g : PrintPart). take (g .used) b) (sym (print-is rate b r)) in
+    rw (p, i) (sym (take-add (printPart rate b .used) (runOf rate n (drop (printPart rate b .used) b) .used) b))
 
 abbrev AudioBack : ℕ → List ℕ → AudioPart → Type 0
 AudioBack flag b g = g .ok ≡ true → (audioBytes (g .count) (g .prints) ≡ take (g .used) b) × (audioFlag (g .count) ≡ flag)
 
-audio-back : (flag : ℕ) (b : List ℕ) → flag ≤ 1 → AudioBack flag b (audioPart flag b)
+audio-back : (flag rate : ℕ) (b : List ℕ) → flag ≤ 1 → AudioBack flag b (audioPart flag rate b)
 unfolding audioPart audioOf
-audio-back flag b h =
+audio-back flag rate b h =
     let P = AudioBack flag b in
     let bad : P noAudio = λ e. absurd (false≢true e) in
     let z : ℕ = getD b 0 0 in
@@ -118,16 +118,17 @@ audio-back flag b h =
     chosen P (eqb flag 0) _ _ (λ q _. (audio-none 0 _ refl, sym (eqb-true flag 0 q)))
     (λ d. chosen P (leb 1 (length b)) _ _
     (λ l. chosen P (eqb (z % 8) 2) _ _
-    (λ q. chosen P (runOf n (drop 1 b) .ok) _ _
-    (λ r _.
-    let run = runOf n (drop 1 b) in
-    let e₁ : take n (run .list ++ drop n (replicate 32 blankPrint)) ≡ run .list = take-at (run .list) _ n (run-length n (drop 1 b)) in
+    (λ q. chosen P (runOf rate n (drop 1 b) .ok) _ _
+    (λ r. chosen P (sameCount (runOf rate n (drop 1 b) .list)) _ _
+    (λ _ _.
+    let run = runOf rate n (drop 1 b) in
+    let e₁ : take n (run .list ++ drop n (replicate 32 blankPrint)) ≡ run .list = take-at (run .list) _ n (run-length rate n (drop 1 b)) in
     let e₂ : (n - 1) * 8 + 2 ≡ z = omega (arith, eqb-true (z % 8) 2 q) in (
       audio-some n _ (λ k. omega (arith, k))
-          ∙ rw (e₁, e₂, run-back n (drop 1 b) r, add-one (run .used)) (sym (ap (take (suc (run .used))) (split-1 b (leb-true 1 (length b) l)))),
+          ∙ rw (e₁, e₂, run-back rate n (drop 1 b) r, add-one (run .used)) (sym (ap (take (suc (run .used))) (split-1 b (leb-true 1 (length b) l)))),
       rw (add-one (z / 8)) (omega (arith, eqb-false flag 0 d)),
     ))
-    (λ _. bad)) (λ _. bad))
+    (λ _. bad)) (λ _. bad)) (λ _. bad))
     (λ _. bad))
 
 -- ---- all parts
@@ -187,7 +188,7 @@ module _ (counter flags : ℕ) (b : List ℕ) (r : PartsRight flags b) where
       let q = videoIn flags b .used in
       let e₁ = id-back (flags / 4 % 2) b (omega arith) (r .id) in
       let e₂ = video-back (flags / 2 % 2) (flags / 16) (drop p b) (omega arith) (r .video) .0 in
-      let e₃ = audio-back (flags % 2) (drop (p + q) b) (omega arith) (r .audio) .0 in
+      let e₃ = audio-back (flags % 2) (flags / 16) (drop (p + q) b) (omega arith) (r .audio) .0 in
       rw (e₁, e₂, e₃, ← take-add p q b, ← take-add (p + q) (audioIn flags b .used) b, r .whole, take-length)
 
   flags-back : flags % 16 < 8 → flagByte (said .contents) ≡ flags
@@ -201,7 +202,7 @@ module _ (counter flags : ℕ) (b : List ℕ) (r : PartsRight flags b) where
         arith,
         i,
         video-back (flags / 2 % 2) (flags / 16) (drop (idIn flags b .used) b) (omega arith) (r .video) .1,
-        audio-back (flags % 2) (drop (idIn flags b .used + videoIn flags b .used) b) (omega arith) (r .audio) .1,
+        audio-back (flags % 2) (flags / 16) (drop (idIn flags b .used + videoIn flags b .used) b) (omega arith) (r .audio) .1,
       )
     where
       as-flag : (n : ℕ) → n ≤ 1 → cond (eqb n 1) 1 0 ≡ n

@@ -1,41 +1,35 @@
 -- The theorems about containers: both round trips (demand 2), what 29 means, and how long a container is.
-use Prim.Native.Nat.{ℕ, zero, suc, _+_, _≤_}
+use Prim.Native.Nat.{ℕ, _+_, _≤_}
 use mathlib.Core.List.{List}
 use mathlib.Core.Path.{_≡_, refl, ap, sym, subst, _∙_}
 use mathlib.Core.Bool.{Bool, true, false, cond}
 use mathlib.Core.Logic.{_↔_}
 use native.Mathlib.Omega.{arith}
-use lib.ListN.{length, take, replicate}
+use lib.ListN.{length, take}
 use lib.Dec.{ltb, eqb}
 use borrow.Author.Tests.{le-ltb}
 use Rattle.laws.specs.Bytes.{Bytes}
 use Rattle.laws.specs.Calls.{over, roomNumber, doneWith}
-use Rattle.laws.specs.Sums.{sum}
-use Rattle.laws.proofs.Bytes.{bytes-replicate}
 use Rattle.laws.proofs.Calls.{done, told-zero, handed}
 use Rattle.laws.proofs.Tests.{past}
-use Rattle.rates.specs.Rates.{rateListed, twoFields}
-use Rattle.rates.specs.Mixes.{mixListed}
 use Rattle.container.specs.declared.Contents.{Contents}
 use Rattle.container.specs.declared.Reading.{Reading}
-use Rattle.container.specs.Bytes.{idBytes, videoBytes, printBytes, runBytes, audioBytes, partBytes, flagByte, frontBytes, checkByte, encode}
+use Rattle.container.specs.Bytes.{encode}
 use Rattle.container.specs.Sizes.{Sized}
-use Rattle.container.specs.Reading.{headerNumber, partsJoined, partsReading, middle, reading}
-use Rattle.container.specs.Parts.{idPart, bothFields, videoPart, printPart, printAt, runOf, audioOf, audioPart}
-use Rattle.container.specs.Writing.{allZero, idReadable, videoReadable, printReadable, printsReadable, readable, contentsNumber, writeNumber, writeDone, writeOut}
+use Rattle.container.specs.Reading.{reading}
+use Rattle.container.specs.Writing.{readable, contentsNumber, writeNumber, writeDone, writeOut}
 use Rattle.container.proofs.Readable.{readable-fits}
 use Rattle.container.proofs.Bytes as bytes
 use Rattle.container.proofs.Outcome.{write-0}
-use Rattle.container_laws.specs.Typed.{TypedPrints, TypedVideo, Typed}
+use Rattle.container_laws.specs.Typed.{Typed}
 use Rattle.container_laws.specs.Given.{ReadAs}
-use Rattle.container_laws.specs.Largest.{fullPrint, fullContents, Largest}
 use Rattle.container_laws.proofs.Back.{written-again}
 use Rattle.container_laws.proofs.There.{read-as-written}
 use Rattle.container_laws.proofs.Gives.{reading-readable}
 use Rattle.container_laws.proofs.Sizes.{accepted-sized, encode-bytes}
 
 -- contents that pass 29 are readable
-passed : (c : Contents) → contentsNumber c ≡ 0 → readable c ≡ true
+pub passed : (c : Contents) → contentsNumber c ≡ 0 → readable c ≡ true
 unfolding contentsNumber
 passed c e = past (readable c) 29 _ e (omega arith) .0
 
@@ -123,18 +117,3 @@ some-reading c t = (
 
 pub exactly-29 : (c : Contents) (room : ℕ) → Typed c → (writeDone c room .number ≡ 29) ↔ (ReadAs c → ⊥)
 exactly-29 c room t = (λ e r. not-29 c room (some-reading c t .1 r) e, λ f. is-29 c room (refused c (λ e. f (some-reading c t .0 e))))
-
--- ---- the bound is met
-
-full-prints : (n : ℕ) → TypedPrints (replicate n fullPrint)
-unfolding TypedPrints
-full-prints zero = tt
-full-prints (suc n) = (record { long = refl; bytes = bytes-replicate 5 255 (omega arith) }, full-prints n)
-
-full-typed : Typed fullContents
-unfolding TypedVideo
-full-typed = record { counter = omega arith; id-long = refl; id = bytes-replicate 20 255 (omega arith); video = (omega arith, omega arith); many = refl; prints = full-prints 32 }
-
-pub largest : Largest fullContents
-unfolding encode frontBytes partBytes idBytes videoBytes audioBytes runBytes printBytes flagByte checkByte sum reading headerNumber partsReading partsJoined middle idPart videoPart bothFields audioPart audioOf runOf printPart printAt over rateListed twoFields mixListed writeDone writeNumber contentsNumber doneWith roomNumber readable idReadable videoReadable printsReadable printReadable allZero
-largest = record { typed = full-typed; id = refl; video = refl; audio = refl; written = refl; short = refl; read = refl }

@@ -2,4 +2,6 @@ pub mod Container
 pub mod Back
 pub mod There
 pub mod Gives
+pub mod Counts
 pub mod Sizes
+pub mod Largest

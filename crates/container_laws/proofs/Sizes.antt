@@ -19,6 +19,7 @@ use Rattle.container.specs.declared.IdPart.{IdPart}
 use Rattle.container.specs.declared.AudioPart.{AudioPart}
 use Rattle.container.specs.declared.Contents.{Contents}
 use Rattle.container.specs.Bytes.{idBytes, videoBytes, printBytes, runBytes, audioBytes, partBytes, flagByte, frontBytes, checkByte, encode}
+use Rattle.container.specs.Contents.{sameCount}
 use Rattle.container.specs.Parts.{idPart, runOf, audioOf, audioPart}
 use Rattle.container.specs.Reading.{idIn, videoIn, middle, reading}
 use Rattle.container.specs.Writing.{printReadable, printsReadable, readable}
@@ -41,20 +42,21 @@ id-20 flag b =
     (λ l. chosen P (eqb (getD b 0 0) 0) _ _ (λ _. length-take-le 20 (drop 1 b) (rw length-drop (omega (arith, leb-true 21 (length b) l)))) (λ _. refl))
     (λ _. refl))
 
-prints-32 : (flag : ℕ) (b : List ℕ) → Bytes b → length (audioPart flag b .prints) ≡ 32
+prints-32 : (flag rate : ℕ) (b : List ℕ) → Bytes b → length (audioPart flag rate b .prints) ≡ 32
 unfolding audioPart audioOf
-prints-32 flag b s =
+prints-32 flag rate b s =
     let P : AudioPart → Type 0 = λ p. length (p .prints) ≡ 32 in
     let n = getD b 0 0 / 8 + 1 in
     chosen P (eqb flag 0) _ _ (λ _. refl)
     (λ _. chosen P (leb 1 (length b)) _ _
     (λ _. chosen P (eqb (getD b 0 0 % 8) 2) _ _
-    (λ _. chosen P (runOf n (drop 1 b) .ok) _ _
+    (λ _. chosen P (runOf rate n (drop 1 b) .ok) _ _
+    (λ _. chosen P (sameCount (runOf rate n (drop 1 b) .list)) _ _
     (λ _. simp (length-append, length-drop, length-replicate, run-length) (omega (arith, s 0)))
-    (λ _. refl)) (λ _. refl))
+    (λ _. refl)) (λ _. refl)) (λ _. refl))
     (λ _. refl))
 
-reading-shaped : (s : List ℕ) → Bytes s → reading s .number ≡ 0 → Shaped (reading s .contents)
+pub reading-shaped : (s : List ℕ) → Bytes s → reading s .number ≡ 0 → Shaped (reading s .contents)
 reading-shaped s small e =
     let a = accepted-is s e in
     let flags = getD s 3 0 in
@@ -62,7 +64,7 @@ reading-shaped s small e =
     let past = idIn flags b .used + videoIn flags b .used in
     rw (a .says) (record {
       id = id-20 (flags / 4 % 2) b;
-      prints = prints-32 (flags % 2) (drop past b) (bytes-drop past b (middle-bytes s small));
+      prints = prints-32 (flags % 2) (flags / 16) (drop past b) (bytes-drop past b (middle-bytes s small));
     })
 
 pub accepted-sized : (s : List ℕ) → Bytes s → reading s .number ≡ 0 → (5 ≤ length s) × (length s ≤ 254)
@@ -87,28 +89,28 @@ video-bytes Absent t = bytes-nil
 video-bytes (One a) t = bytes-cons 0x09 (a ∷ []) (omega arith) (bytes-cons a [] t bytes-nil)
 video-bytes (Two a b) t = bytes-cons 0x11 (a ∷ b ∷ []) (omega arith) (bytes-cons a (b ∷ []) (t .0) (bytes-cons b [] (t .1) bytes-nil))
 
-print-bytes : (p : Print) → TypedPrint p → printReadable p ≡ true → Bytes (printBytes p)
+print-bytes : (rate : ℕ) (p : Print) → TypedPrint p → printReadable rate p ≡ true → Bytes (printBytes p)
 unfolding printBytes
-print-bytes p t e =
-    let f = print-fits p e in
+print-bytes rate p t e =
+    let f = print-fits rate p e in
     let id = f .id in
     let mix = f .mix in
     let five = f .five in
     let xs : List ℕ = take (p .size) (p .bytes) in
     bytes-cons (p .id * 8 + p .mix) ((p .size * 8) ∷ xs) (omega arith) (bytes-cons (p .size * 8) xs (omega arith) (bytes-take (p .size) (p .bytes) (t .bytes)))
 
-run-bytes : (n : ℕ) (ps : List Print) → TypedPrints ps → printsReadable n ps ≡ true → Bytes (runBytes (take n ps))
+run-bytes : (rate n : ℕ) (ps : List Print) → TypedPrints ps → printsReadable rate n ps ≡ true → Bytes (runBytes (take n ps))
 unfolding runBytes printsReadable TypedPrints
-run-bytes zero ps t e = bytes-nil
-run-bytes (suc n) [] t e = bytes-nil
-run-bytes (suc n) (p ∷ ps) t e =
-    let q = both (printReadable p) _ e in
-    bytes-append (printBytes p) (runBytes (take n ps)) (print-bytes p (t .0) (q .0)) (run-bytes n ps (t .1) (q .1))
+run-bytes rate zero ps t e = bytes-nil
+run-bytes rate (suc n) [] t e = bytes-nil
+run-bytes rate (suc n) (p ∷ ps) t e =
+    let q = both (printReadable rate p) _ e in
+    bytes-append (printBytes p) (runBytes (take n ps)) (print-bytes rate p (t .0) (q .0)) (run-bytes rate n ps (t .1) (q .1))
 
-audio-bytes : (n : ℕ) (ps : List Print) → n ≤ 32 → TypedPrints ps → printsReadable n ps ≡ true → Bytes (audioBytes n ps)
+audio-bytes : (rate n : ℕ) (ps : List Print) → n ≤ 32 → TypedPrints ps → printsReadable rate n ps ≡ true → Bytes (audioBytes n ps)
 unfolding audioBytes
-audio-bytes zero ps h t e = bytes-nil
-audio-bytes (suc n) ps h t e = bytes-cons (n * 8 + 2) (runBytes (take (suc n) ps)) (omega arith) (run-bytes (suc n) ps t e)
+audio-bytes rate zero ps h t e = bytes-nil
+audio-bytes rate (suc n) ps h t e = bytes-cons (n * 8 + 2) (runBytes (take (suc n) ps)) (omega arith) (run-bytes rate (suc n) ps t e)
 
 flag-small : (c : Contents) → c .rate ≤ 11 → flagByte c < 256
 unfolding flagByte
@@ -125,7 +127,7 @@ encode-bytes c t e =
     let A : List ℕ = audioBytes (c .count) (c .prints) in
     let parts : Bytes (partBytes c) =
     bytes-append (I ++ W) A (bytes-append I W (id-bytes (c .hasid) (c .id) (t .id)) (video-bytes (c .video) (t .video)))
-    (audio-bytes (c .count) (c .prints) (p .many) (t .prints) (p .prints)) in
+    (audio-bytes (c .rate) (c .count) (c .prints) (p .many) (t .prints) (p .prints)) in
     let b : List ℕ = partBytes c in
     let n : ℕ = length b + 2 in
     let z : ℕ = checkByte (sum (frontBytes c)) in

@@ -15,6 +15,7 @@ use Rattle.laws.proofs.Tests.{both}
 use Rattle.laws.proofs.Sums.{sum-append}
 use Rattle.rates.specs.Rates.{twoFields}
 use Rattle.rates.specs.Mixes.{mixListed}
+use Rattle.rates.specs.Cadence.{countOccurs}
 use Rattle.laws.specs.declared.Video.{Video}
 use Rattle.laws.specs.declared.Video.the-variants.{Absent, One, Two}
 use Rattle.container.specs.declared.Print.{Print}
@@ -22,7 +23,7 @@ use Rattle.container.specs.declared.IdPart.{IdPart}
 use Rattle.container.specs.declared.VideoPart.{VideoPart}
 use Rattle.container.specs.declared.AudioPart.{AudioPart}
 use Rattle.container.specs.declared.Contents.{Contents}
-use Rattle.container.specs.Contents.{blankPrint}
+use Rattle.container.specs.Contents.{blankPrint, sameCount}
 use Rattle.container.specs.Bytes.{idBytes, videoBytes, printBytes, runBytes, audioBytes, videoFlag, audioFlag, partBytes, flagByte, frontBytes, checkByte, encode}
 use Rattle.container.specs.Parts.{idPart, oneField, bothFields, videoPart, printPart, printAt, runOf, audioOf, audioPart}
 use Rattle.container.specs.Reading.{headerNumber, partsReading, middle, reading}
@@ -51,24 +52,24 @@ drop-zeros (suc k) (suc n) (x ∷ xs) l e = drop-zeros k n xs (omega arith) e
 -- ---- fingerprints
 
 -- a fingerprint as a reading gives it
-record Well (p : Print) : Type 0 where
+record Well (rate : ℕ) (p : Print) : Type 0 where
   fits : PrintFits p
   listed : mixListed (p .mix) ≡ true
+  occurs : countOccurs rate (p .size) ≡ true
   room : length (p .bytes) ≡ 5
   zeros : drop (p .size) (p .bytes) ≡ drop (p .size) (replicate 5 0)
 
-well : (p : Print) → TypedPrint p → printReadable p ≡ true → Well p
+well : (rate : ℕ) (p : Print) → TypedPrint p → printReadable rate p ≡ true → Well rate p
 unfolding printReadable
-well p t e =
+well rate p t e =
     let q₁ = both (leb (p .id) 31) _ e in
     let q₂ = both (mixListed (p .mix)) _ (q₁ .1) in
-    let q₃ = both (leb 1 (p .size)) _ (q₂ .1) in
-    let q₄ = both (leb (p .size) 5) _ (q₃ .1) in
-    record { fits = print-fits p e; listed = q₂ .0; room = t .long; zeros = drop-zeros (p .size) 5 (p .bytes) (t .long) (q₄ .1) }
+    let q₃ = both (countOccurs rate (p .size)) _ (q₂ .1) in
+    record { fits = print-fits rate p e; listed = q₂ .0; occurs = q₃ .0; room = t .long; zeros = drop-zeros (p .size) 5 (p .bytes) (t .long) (q₃ .1) }
 
-print-there : (p : Print) (rest : List ℕ) → Well p → printPart (printBytes p ++ rest) ≡ record { ok = true; used = p .size + 2; print = p }
+print-there : (rate : ℕ) (p : Print) (rest : List ℕ) → Well rate p → printPart rate (printBytes p ++ rest) ≡ record { ok = true; used = p .size + 2; print = p }
 unfolding printBytes printAt over
-print-there p rest w =
+print-there rate p rest w =
     let f = w .fits in
     let m = f .mix in
     let xs : List ℕ = take (p .size) (p .bytes) in
@@ -81,44 +82,43 @@ print-there p rest w =
     let t : take (p .size) (xs ++ rest) ≡ xs = take-at xs rest (p .size) hx in
     let z : xs ++ drop (length xs) (replicate 5 0) ≡ p .bytes =
     ap (λ (k : ℕ). xs ++ drop k (replicate 5 0)) hx ∙ ap (λ (d : List ℕ). xs ++ d) (sym (w .zeros)) ∙ take-append-drop (p .size) (p .bytes) in
-    let r : PrintRight b =
+    let r : PrintRight rate b =
     record {
       two = omega arith;
       mix = rw e₂ (w .listed);
       low = omega arith;
-      some = omega (arith, f .some);
-      five = omega (arith, f .five);
+      occurs = rw e₃ (w .occurs);
       fits = omega arith;
     } in
-    print-is b r ∙ rw (e₁, e₂, e₃, t, z)
+    print-is rate b r ∙ rw (e₁, e₂, e₃, t, z)
 
-data AllWell : List Print → Type 0 where
-  none : AllWell []
-  more : {p : Print} {ps : List Print} → Well p → AllWell ps → AllWell (p ∷ ps)
+data AllWell (rate : ℕ) : List Print → Type 0 where
+  none : AllWell rate []
+  more : {p : Print} {ps : List Print} → Well rate p → AllWell rate ps → AllWell rate (p ∷ ps)
 
-run-there : (ps : List Print) (rest : List ℕ) → AllWell ps
-    → runOf (length ps) (runBytes ps ++ rest) ≡ record { ok = true; used = length (runBytes ps); list = ps }
+run-there : (rate : ℕ) (ps : List Print) (rest : List ℕ) → AllWell rate ps
+    → runOf rate (length ps) (runBytes ps ++ rest) ≡ record { ok = true; used = length (runBytes ps); list = ps }
 unfolding runOf runBytes
-run-there [] rest w = refl
-run-there (p ∷ ps) rest (more w ws) =
+run-there rate [] rest w = refl
+run-there rate (p ∷ ps) rest (more w ws) =
     let l : length (printBytes p) ≡ p .size + 2 = print-length p (omega (arith, w .fits .five, w .room)) in
     rw (
       append-assoc (printBytes p) (runBytes ps) rest,
-      print-there p (runBytes ps ++ rest) w,
+      print-there rate p (runBytes ps ++ rest) w,
       drop-at (printBytes p) (runBytes ps ++ rest) (p .size + 2) l,
-      run-there ps rest ws,
+      run-there rate ps rest ws,
       length-append,
       l,
     )
 
-each-well : (n : ℕ) (ps : List Print) → TypedPrints ps → printsReadable n ps ≡ true → AllWell (take n ps)
+each-well : (rate n : ℕ) (ps : List Print) → TypedPrints ps → printsReadable rate n ps ≡ true → AllWell rate (take n ps)
 unfolding printsReadable TypedPrints
-each-well zero [] t e = none
-each-well zero (p ∷ ps) t e = none
-each-well (suc n) [] t e = none
-each-well (suc n) (p ∷ ps) t e =
-    let q = both (printReadable p) _ e in
-    more (well p (t .0) (q .0)) (each-well n ps (t .1) (q .1))
+each-well rate zero [] t e = none
+each-well rate zero (p ∷ ps) t e = none
+each-well rate (suc n) [] t e = none
+each-well rate (suc n) (p ∷ ps) t e =
+    let q = both (printReadable rate p) _ e in
+    more (well rate p (t .0) (q .0)) (each-well rate n ps (t .1) (q .1))
 
 blank-is : (p : Print) → TypedPrint p → printBlank p ≡ true → p ≡ blankPrint
 unfolding printBlank
@@ -129,18 +129,18 @@ blank-is p t e =
     let b = drop-zeros 0 5 (p .bytes) (t .long) (q₃ .1) in
     λ i. record { id = eqb-true (p .id) 0 (q₁ .0) i; mix = eqb-true (p .mix) 0 (q₂ .0) i; size = eqb-true (p .size) 0 (q₃ .0) i; bytes = b i }
 
-rest-blank : (n m : ℕ) (ps : List Print) → TypedPrints ps → length ps ≡ m → printsReadable n ps ≡ true → drop n ps ≡ drop n (replicate m blankPrint)
+rest-blank : (rate n m : ℕ) (ps : List Print) → TypedPrints ps → length ps ≡ m → printsReadable rate n ps ≡ true → drop n ps ≡ drop n (replicate m blankPrint)
 unfolding printsReadable TypedPrints
-rest-blank zero zero [] t l e = refl
-rest-blank zero (suc m) [] t l e = absurd (let z : ⊥ = omega arith in z)
-rest-blank zero zero (p ∷ ps) t l e = absurd (let z : ⊥ = omega arith in z)
-rest-blank zero (suc m) (p ∷ ps) t l e =
+rest-blank rate zero zero [] t l e = refl
+rest-blank rate zero (suc m) [] t l e = absurd (let z : ⊥ = omega arith in z)
+rest-blank rate zero zero (p ∷ ps) t l e = absurd (let z : ⊥ = omega arith in z)
+rest-blank rate zero (suc m) (p ∷ ps) t l e =
     let q = both (printBlank p) _ e in
-    ap (λ (x : Print). x ∷ ps) (blank-is p (t .0) (q .0)) ∙ ap (λ (x : List Print). blankPrint ∷ x) (rest-blank zero m ps (t .1) (omega arith) (q .1))
-rest-blank (suc n) zero [] t l e = refl
-rest-blank (suc n) (suc m) [] t l e = absurd (let z : ⊥ = omega arith in z)
-rest-blank (suc n) zero (p ∷ ps) t l e = absurd (let z : ⊥ = omega arith in z)
-rest-blank (suc n) (suc m) (p ∷ ps) t l e = rest-blank n m ps (t .1) (omega arith) (both (printReadable p) _ e .1)
+    ap (λ (x : Print). x ∷ ps) (blank-is p (t .0) (q .0)) ∙ ap (λ (x : List Print). blankPrint ∷ x) (rest-blank rate zero m ps (t .1) (omega arith) (q .1))
+rest-blank rate (suc n) zero [] t l e = refl
+rest-blank rate (suc n) (suc m) [] t l e = absurd (let z : ⊥ = omega arith in z)
+rest-blank rate (suc n) zero (p ∷ ps) t l e = absurd (let z : ⊥ = omega arith in z)
+rest-blank rate (suc n) (suc m) (p ∷ ps) t l e = rest-blank rate n m ps (t .1) (omega arith) (both (printReadable rate p) _ e .1)
 
 -- ---- each part
 
@@ -162,18 +162,18 @@ video-there rate (Two a b) rest e =
     let q₂ = both (leb b 240) _ (q₁ .1) in
     rw (le-leb 2 (suc (suc (suc (length rest)))) (omega arith), q₂ .1, le-leb 3 (suc (suc (suc (length rest)))) (omega arith), q₁ .0, q₂ .0)
 
-audio-there : (n : ℕ) (ps : List Print) → n ≤ 32 → length ps ≡ 32 → AllWell (take n ps) → drop n ps ≡ drop n (replicate 32 blankPrint)
-    → audioPart (audioFlag n) (audioBytes n ps) ≡ record { ok = true; used = length (audioBytes n ps); count = n; prints = ps }
+audio-there : (rate n : ℕ) (ps : List Print) → n ≤ 32 → length ps ≡ 32 → AllWell rate (take n ps) → sameCount (take n ps) ≡ true → drop n ps ≡ drop n (replicate 32 blankPrint)
+    → audioPart (audioFlag n) rate (audioBytes n ps) ≡ record { ok = true; used = length (audioBytes n ps); count = n; prints = ps }
 unfolding audioPart audioOf audioBytes
-audio-there zero ps m l w z = rw z
-audio-there (suc n) ps m l w z =
+audio-there rate zero ps m l w c z = rw z
+audio-there rate (suc n) ps m l w c z =
     let qs : List Print = take (suc n) ps in
     let hl : length qs ≡ suc n = length-take-le (suc n) ps (omega arith) in
-    let r = rw (append-nil, hl) at (run-there qs [] w) in
+    let r = rw (append-nil, hl) at (run-there rate qs [] w) in
     let e₁ : (n * 8 + 2) / 8 + 1 ≡ suc n = omega arith in
     let e₂ : (n * 8 + 2) % 8 ≡ 2 = omega arith in
     let e₃ : qs ++ drop (suc n) (replicate 32 blankPrint) ≡ ps = ap (λ (d : List Print). qs ++ d) (sym z) ∙ take-append-drop (suc n) ps in
-    rw (le-leb 1 (suc (length (runBytes qs))) (omega arith), e₂, e₁, r, e₃, add-one (length (runBytes qs)))
+    rw (le-leb 1 (suc (length (runBytes qs))) (omega arith), e₂, e₁, r, c, e₃, add-one (length (runBytes qs)))
 
 -- ---- the flags, taken apart again
 
@@ -230,10 +230,10 @@ module _ (c : Contents) (t : Typed c) (p : Passes c) where
       let pi : idPart (flags / 4 % 2) (I ++ W ++ A) ≡ gi = rw (f .id, append-assoc I W A) (id-there (c .hasid) (c .id) (W ++ A) (t .id-long) (p .id)) in
       let pv : videoPart (flags / 2 % 2) (flags / 16) (drop (length I) (I ++ W ++ A)) ≡ gv =
       rw (f .video, f .rate, append-assoc I W A, drop-at I (W ++ A) (length I) refl) (video-there (c .rate) (c .video) A (p .video)) in
-      let pa : audioPart (flags % 2) (drop (length I + length W) (I ++ W ++ A)) ≡ ga =
-      rw (f .audio, drop-at (I ++ W) A (length I + length W) (length-append I W))
-      (audio-there (c .count) (c .prints) (p .many) (t .many) (each-well (c .count) (c .prints) (t .prints) (p .prints))
-      (rest-blank (c .count) 32 (c .prints) (t .prints) (t .many) (p .prints))) in
+      let pa : audioPart (flags % 2) (flags / 16) (drop (length I + length W) (I ++ W ++ A)) ≡ ga =
+      rw (f .audio, f .rate, drop-at (I ++ W) A (length I + length W) (length-append I W))
+      (audio-there (c .rate) (c .count) (c .prints) (p .many) (t .many) (each-well (c .rate) (c .count) (c .prints) (t .prints) (p .prints)) (p .counts)
+      (rest-blank (c .rate) (c .count) 32 (c .prints) (t .prints) (t .many) (p .prints))) in
       let l : length I + length W + length A ≡ length (I ++ W ++ A) = sym (length-append (I ++ W) A ∙ ap (λ (k : ℕ). k + length A) (length-append I W)) in
       parts-0 (c .counter) flags (I ++ W ++ A) gi (sym pi) refl gv (sym pv) refl ga (sym pa) refl l ∙ rw (f .rate, f .id, id-flag-is)
 

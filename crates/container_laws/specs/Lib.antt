@@ -1,3 +1,4 @@
 pub mod Typed
 pub mod Given
+pub mod Counts
 pub mod Largest

@@ -1,12 +1,12 @@
 -- The programs of specs/Examples are of their kinds, for every value, bytes or size.
 use Prim.Native.Nat.{ℕ, zero, suc, _-_, _≤_, _<_}
 use mathlib.Core.Path.{_≡_, refl, sym, ap, _∙_}
-use mathlib.Core.Bool.{Bool, true, false}
+use mathlib.Core.Bool.{Bool, true, false, _&&_}
 use mathlib.Core.List.{List, [], _∷_, _++_, map, append-assoc}
 use native.Mathlib.Omega.{arith}
 use native.Mathlib.Nat.{not-suc-le-zero}
 use lib.Dec.{leb, eqb}
-use lib.ListN.{length, getD, drop, replicate, length-append, length-drop, length-replicate, length-map}
+use lib.ListN.{length, getD, take, drop, replicate, length-append, length-drop, length-replicate, length-map}
 use lib.Seq.{take-append-seam, drop-at, getD-at, getD-set-same}
 use borrow.Author.Tests.{eqb-true, eqb-false, eq-eqb, ne-eqb, le-leb}
 use Rattle.laws.specs.Bytes.{Bytes}
@@ -14,6 +14,7 @@ use Rattle.laws.specs.Calls.{over, outWith}
 use Rattle.laws.proofs.Bytes.{bytes-nil, bytes-cons, bytes-replicate, bytes-append}
 use Rattle.laws.proofs.Tests.{both, chosen}
 use Rattle.rates.specs.Mixes.{mixListed}
+use Rattle.rates.specs.Cadence.{countOccurs}
 use Rattle.sampling.specs.Samples.{firsts}
 use Rattle.sampling.proofs.Filled.{length-firsts}
 use Rattle.picture.specs.declared.Told.the-variants.{Open}
@@ -22,7 +23,7 @@ use Rattle.container.specs.declared.Print.{Print}
 use Rattle.laws.specs.declared.Video.{Video}
 use Rattle.laws.specs.declared.Video.the-variants.{Absent, One, Two}
 use Rattle.container.specs.declared.Contents.{Contents}
-use Rattle.container.specs.Contents.{blankPrint}
+use Rattle.container.specs.Contents.{blankPrint, allCarry, sameCount}
 use Rattle.container.specs.Bytes.{idBytes, videoBytes, partBytes, flagByte, frontBytes, encode}
 use Rattle.container.specs.Reading.{reading}
 use Rattle.container.specs.Writing.{allZero, printReadable, printBlank, printsReadable, readable, writeNumber, writeOut}
@@ -171,15 +172,14 @@ module _ (xs : ℕ → ℕ) where
   first-speaks (p ∷ ps) i l = firsts-at (p .size) i (replicate (5 - p .size) 0) l
 
   -- the tests of Write ask nothing of the bytes but zeros after them
-  print-passes : (p : Print) → printReadable p ≡ true → printReadable (printAs xs p) ≡ true
+  print-passes : (rate : ℕ) (p : Print) → printReadable rate p ≡ true → printReadable rate (printAs xs p) ≡ true
   unfolding printReadable printAs
-  print-passes p e =
+  print-passes rate p e =
       let a = both (leb (p .id) 31) _ e in
       let b = both (mixListed (p .mix)) _ (a .1) in
-      let c = both (leb 1 (p .size)) _ (b .1) in
-      let d = both (leb (p .size) 5) _ (c .1) in
+      let c = both (countOccurs rate (p .size)) _ (b .1) in
       let z = ap allZero (drop-at (firsts xs (p .size)) (replicate (5 - p .size) 0) (p .size) (length-firsts xs (p .size))) ∙ all-zero (5 - p .size) in
-      rw (a .0, b .0, c .0, d .0, z) refl
+      rw (a .0, b .0, c .0, z) refl
 
   blank-size : (p : Print) → printBlank p ≡ true → p .size ≡ 0
   unfolding printBlank
@@ -191,17 +191,29 @@ module _ (xs : ℕ → ℕ) where
       let a = both (eqb (p .id) 0) _ e in
       rw (a .0, both (eqb (p .mix) 0) _ (a .1) .0, blank-size p e) refl
 
-  prints-pass : (n : ℕ) (ps : List Print) → printsReadable n ps ≡ true → printsReadable n (map (printAs xs) ps) ≡ true
+  prints-pass : (rate n : ℕ) (ps : List Print) → printsReadable rate n ps ≡ true → printsReadable rate n (map (printAs xs) ps) ≡ true
   unfolding printsReadable
-  prints-pass n [] e = refl
-  prints-pass zero (p ∷ ps) e = let a = both (printBlank p) _ e in rw (blank-passes p (a .0), prints-pass zero ps (a .1)) refl
-  prints-pass (suc n) (p ∷ ps) e = let a = both (printReadable p) _ e in rw (print-passes p (a .0), prints-pass n ps (a .1)) refl
+  prints-pass rate n [] e = refl
+  prints-pass rate zero (p ∷ ps) e = let a = both (printBlank p) _ e in rw (blank-passes p (a .0), prints-pass rate zero ps (a .1)) refl
+  prints-pass rate (suc n) (p ∷ ps) e = let a = both (printReadable rate p) _ e in rw (print-passes rate p (a .0), prints-pass rate n ps (a .1)) refl
+
+  carry-same : (m n : ℕ) (ps : List Print) → allCarry m (take n (map (printAs xs) ps)) ≡ allCarry m (take n ps)
+  unfolding allCarry printAs
+  carry-same m zero ps = refl
+  carry-same m (suc n) [] = refl
+  carry-same m (suc n) (p ∷ ps) = ap (λ (t : Bool). eqb (p .size) m && t) (carry-same m n ps)
+
+  counts-same : (n : ℕ) (ps : List Print) → sameCount (take n (map (printAs xs) ps)) ≡ sameCount (take n ps)
+  unfolding sameCount allCarry printAs
+  counts-same zero ps = refl
+  counts-same (suc n) [] = refl
+  counts-same (suc n) (p ∷ ps) = carry-same (p .size) (suc n) (p ∷ ps)
 
   contents-pass : (c : Contents) → readable c ≡ true → readable (withAudio xs c) ≡ true
   unfolding readable withAudio
   contents-pass c e =
       let t = passes c e in
-      rw (t .rate, t .id, t .video, le-leb (c .count) 32 (t .many)) (prints-pass (c .count) (c .prints) (t .prints))
+      rw (t .rate, t .id, t .video, le-leb (c .count) 32 (t .many), prints-pass (c .rate) (c .count) (c .prints) (t .prints)) (counts-same (c .count) (c .prints) ∙ t .counts)
 
   module _ (small : (i : ℕ) → xs i < 256) where
     firsts-bytes : (n : ℕ) → Bytes (firsts xs n)
@@ -216,11 +228,11 @@ module _ (xs : ℕ → ℕ) where
       bytes = bytes-append (firsts xs (p .size)) (replicate (5 - p .size) 0) (firsts-bytes (p .size)) (bytes-replicate (5 - p .size) 0 (omega arith));
     }
 
-    prints-typed : (n : ℕ) (ps : List Print) → printsReadable n ps ≡ true → TypedPrints (map (printAs xs) ps)
+    prints-typed : (rate n : ℕ) (ps : List Print) → printsReadable rate n ps ≡ true → TypedPrints (map (printAs xs) ps)
     unfolding printsReadable TypedPrints
-    prints-typed n [] e = tt
-    prints-typed zero (p ∷ ps) e = let a = both (printBlank p) _ e in (print-typed p (omega (arith, blank-size p (a .0))), prints-typed zero ps (a .1))
-    prints-typed (suc n) (p ∷ ps) e = let a = both (printReadable p) _ e in (print-typed p (print-fits p (a .0) .five), prints-typed n ps (a .1))
+    prints-typed rate n [] e = tt
+    prints-typed rate zero (p ∷ ps) e = let a = both (printBlank p) _ e in (print-typed p (omega (arith, blank-size p (a .0))), prints-typed rate zero ps (a .1))
+    prints-typed rate (suc n) (p ∷ ps) e = let a = both (printReadable rate p) _ e in (print-typed p (print-fits rate p (a .0) .five), prints-typed rate n ps (a .1))
 
     contents-typed : (c : Contents) → readable c ≡ true → Typed c → Typed (withAudio xs c)
     unfolding withAudio
@@ -230,7 +242,7 @@ module _ (xs : ℕ → ℕ) where
       id = t .id;
       video = t .video;
       many = length-map (c .prints) (printAs xs) ∙ t .many;
-      prints = prints-typed (c .count) (c .prints) (passes c e .prints);
+      prints = prints-typed (c .rate) (c .count) (c .prints) (passes c e .prints);
     }
 
     speaks-xs : (u : Setup) → accepted u ≡ true → (es : List Event) (id : List ℕ) → Bytes id → audioAfter u (sounded u es) es ≡ true

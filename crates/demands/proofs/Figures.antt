@@ -9,9 +9,11 @@ use lib.Dec.{leb}
 use lib.ListN.{replicate}
 use borrow.Author.Tests.{le-leb, lt-leb}
 use Rattle.laws.specs.Calls.{over}
+use Rattle.laws.specs.Lists.{isOneOf}
 use Rattle.laws.specs.Sums.{sum}
 use Rattle.rates.specs.Rates.{rateListed}
 use Rattle.rates.specs.Mixes.{mixListed}
+use Rattle.rates.specs.Cadence.{cadences, cadence, countOccurs, frames, from}
 use Rattle.picture.specs.Fields.{changedBy, changesIn, fingerprintOf}
 use Rattle.sound.specs.Mix.{signed, signedAt, instantSamples, weights, divisor, weighted, floor, mixed, pseudoAbsolute}
 use Rattle.sound.specs.Filter.{filterNext, filtered, envelopeAfter, meanAfter}
@@ -19,7 +21,7 @@ use Rattle.laws.specs.declared.Video.{Video}
 use Rattle.laws.specs.declared.Video.the-variants.{Absent, One}
 use Rattle.container.specs.declared.Print.{Print}
 use Rattle.container.specs.declared.Reading.{Reading}
-use Rattle.container.specs.Contents.{blankPrint}
+use Rattle.container.specs.Contents.{blankPrint, allCarry, sameCount}
 use Rattle.container.specs.Parts.{idPart, oneField, videoPart, printPart, printAt, runOf, audioOf, audioPart}
 use Rattle.container.specs.Reading.{headerNumber, partsJoined, partsReading, middle, reading}
 use Rattle.packet.specs.Words.{parity, withBit9, wordOf, sum9, checkWord}
@@ -90,7 +92,7 @@ unfolding changedBy
 darker x y h = rw (le-leb (x + 32) y h) (or-true (leb (y + 32) x))
 
 pub figures : Figures
-unfolding fingerprintOf pseudoAbsolute mixed floor weighted weights divisor instantSamples signedAt signed filtered filterNext reading headerNumber partsReading partsJoined middle idPart videoPart oneField audioPart audioOf runOf printPart printAt over sum rateListed mixListed packetWords frontWords headWords wordOf withBit9 parity sum9 checkWord
+unfolding fingerprintOf pseudoAbsolute mixed floor weighted weights divisor instantSamples signedAt signed filtered filterNext reading headerNumber partsReading partsJoined middle idPart videoPart oneField audioPart audioOf runOf printPart printAt countOccurs cadence cadences frames from isOneOf sameCount allCarry over sum rateListed mixListed packetWords frontWords headWords wordOf withBit9 parity sum9 checkWord
 figures = record {
   unchanged-31 = λ x. (unchanged x (x + 31) (omega arith) (omega arith), unchanged (x + 31) x (omega arith) (omega arith));
   changed-32 = λ x. (darker x (x + 32) (omega arith), brighter (x + 32) x (omega arith));

@@ -6,17 +6,17 @@ use mathlib.Core.List.{List, [], _∷_, _++_}
 use native.Mathlib.Omega.{arith}
 use native.Mathlib.Nat.{mod-lt, pow-suc, mul-le-mul-left}
 use lib.Dec.{ltb, eqb}
-use lib.ListN.{length, drop, replicate, length-append, length-drop, length-replicate}
+use lib.ListN.{length, take, drop, replicate, length-append, length-drop, length-replicate}
 use lib.Seq.{drop-at}
-use borrow.Author.Tests.{le-leb, eqb-true}
+use borrow.Author.Tests.{le-leb, eq-eqb, eqb-true}
 use Rattle.laws.specs.Bytes.{Bytes}
 use Rattle.laws.proofs.Bytes.{bytes-nil, bytes-cons, bytes-replicate, bytes-append}
 use Rattle.laws.proofs.Tests.{both, chosen}
 use Rattle.rates.specs.Rates.{pairsWith}
 use Rattle.rates.specs.Rates as rates
 use Rattle.rates.specs.Mixes.{mixListed}
-use Rattle.rates.specs.Cadence.{cadence}
-use Rattle.rates.proofs.Table.{due-1-to-5}
+use Rattle.rates.specs.Cadence.{cadence, countOccurs}
+use Rattle.rates.proofs.Table.{occurs-is, occurs-1-to-5}
 use Rattle.sampling.specs.Formats.{rowOf}
 use Rattle.sampling.proofs.Filled.{sixty}
 use Rattle.picture.specs.declared.Told.{Told}
@@ -33,7 +33,7 @@ use Rattle.picture.proofs.Sizes as sizes
 use Rattle.sound.specs.Filter.{meanAfter, envelopeAfter, bitOf}
 use Rattle.fingerprint.specs.History.{upTo, bitAt, bitsFrom, fromBits, bytesFrom}
 use Rattle.container.specs.declared.Print as container
-use Rattle.container.specs.Contents.{blankPrint}
+use Rattle.container.specs.Contents.{blankPrint, allCarry, sameCount}
 use Rattle.container.specs.Sizes.{Sized}
 use Rattle.container.specs.Writing.{allZero, idReadable, videoReadable, printReadable, printBlank, printsReadable, readable, contentsNumber}
 use Rattle.container.proofs.Readable.{readable-fits}
@@ -178,30 +178,44 @@ unfolding allZero
 all-zero zero = refl
 all-zero (suc n) = all-zero n
 
-module _ (d g n : ℕ) (h : ℕ → ℕ → List ℕ) (some : 1 ≤ n) (five : n ≤ 5) where
+module _ (rate d g n : ℕ) (h : ℕ → ℕ → List ℕ) (occurs : countOccurs rate n ≡ true) where
+  five : n ≤ 5
+  five = occurs-1-to-5 rate n occurs .1
+
   abbrev print : ℕ → ℕ → container.Print
   print k m = record { id = k; mix = m; size = n; bytes = bytesFrom d (h m k) g n ++ replicate (5 - n) 0 }
 
-  print-readable : (k m : ℕ) → k < 32 → mixListed m ≡ true → printReadable (print k m) ≡ true
+  print-readable : (k m : ℕ) → k < 32 → mixListed m ≡ true → printReadable rate (print k m) ≡ true
   unfolding printReadable
   print-readable k m l e =
       let z : allZero (drop n (bytesFrom d (h m k) g n ++ replicate (5 - n) 0)) ≡ true =
       ap allZero (drop-at (bytesFrom d (h m k) g n) (replicate (5 - n) 0) n (from-length d (h m k) g n)) ∙ all-zero (5 - n) in
-      rw (le-leb k 31 (omega arith), e, le-leb 1 n some, le-leb n 5 five, z) refl
+      rw (le-leb k 31 (omega arith), e, occurs, z) refl
 
   print-typed : (k m : ℕ) → TypedPrint (print k m)
   print-typed k m = record {
-    long = length-append (bytesFrom d (h m k) g n) (replicate (5 - n) 0) ∙ omega (arith, from-length d (h m k) g n, length-replicate {A = ℕ} (5 - n) 0);
+    long = length-append (bytesFrom d (h m k) g n) (replicate (5 - n) 0) ∙ omega (arith, five, from-length d (h m k) g n, length-replicate {A = ℕ} (5 - n) 0);
     bytes = bytes-append (bytesFrom d (h m k) g n) (replicate (5 - n) 0) (from-bytes d (h m k) g n) (bytes-replicate (5 - n) 0 (omega arith));
   }
 
-  said-readable : (k : ℕ) (ms : List ℕ) (ps : List container.Print) → k + length ms ≤ 32 → allListed ms ≡ true → printsReadable 0 ps ≡ true
-      → printsReadable (length ms) (printsSaid d g n h k ms ++ ps) ≡ true
+  said-readable : (k : ℕ) (ms : List ℕ) (ps : List container.Print) → k + length ms ≤ 32 → allListed ms ≡ true → printsReadable rate 0 ps ≡ true
+      → printsReadable rate (length ms) (printsSaid d g n h k ms ++ ps) ≡ true
   unfolding allListed printsReadable printsSaid
   said-readable k [] ps l e z = z
   said-readable k (m ∷ ms) ps l e z =
       let a = both (mixListed m) (allListed ms) e in
       rw (print-readable k m (omega arith) (a .0), said-readable (suc k) ms ps (omega arith) (a .1) z) refl
+
+  -- "every fingerprint of a container carries the same count" (02, A2): what the cadence asks for
+  said-carry : (k : ℕ) (ms : List ℕ) (ps : List container.Print) → allCarry n (take (length ms) (printsSaid d g n h k ms ++ ps)) ≡ true
+  unfolding allCarry printsSaid
+  said-carry k [] ps = refl
+  said-carry k (m ∷ ms) ps = rw (eq-eqb n n refl) (said-carry (suc k) ms ps)
+
+  said-counts : (k : ℕ) (ms : List ℕ) (ps : List container.Print) → sameCount (take (length ms) (printsSaid d g n h k ms ++ ps)) ≡ true
+  unfolding sameCount allCarry printsSaid
+  said-counts k [] ps = refl
+  said-counts k (m ∷ ms) ps = said-carry k (m ∷ ms) ps
 
   said-typed : (k : ℕ) (ms : List ℕ) (ps : List container.Print) → TypedPrints ps → TypedPrints (printsSaid d g n h k ms ++ ps)
   unfolding TypedPrints printsSaid
@@ -214,12 +228,12 @@ module _ (d g n : ℕ) (h : ℕ → ℕ → List ℕ) (some : 1 ≤ n) (five : n
   said-length k (m ∷ ms) = ap suc (said-length (suc k) ms)
 
 -- the places after them
-blank-readable : (j m : ℕ) → printsReadable 0 (drop j (replicate m blankPrint)) ≡ true
+blank-readable : (rate j m : ℕ) → printsReadable rate 0 (drop j (replicate m blankPrint)) ≡ true
 unfolding printsReadable printBlank allZero
-blank-readable zero zero = refl
-blank-readable zero (suc m) = blank-readable zero m
-blank-readable (suc j) zero = refl
-blank-readable (suc j) (suc m) = blank-readable j m
+blank-readable rate zero zero = refl
+blank-readable rate zero (suc m) = blank-readable rate zero m
+blank-readable rate (suc j) zero = refl
+blank-readable rate (suc j) (suc m) = blank-readable rate j m
 
 blank-typed : (j m : ℕ) → TypedPrints (drop j (replicate m blankPrint))
 unfolding TypedPrints
@@ -237,26 +251,35 @@ module _ (u : Setup) (l : Listed u) (es : List Event) where
   abbrev due : ℕ
   due = bytesDue (u .rate) (sounded u es)
 
-  pub due-fits : (1 ≤ due) × (due ≤ 5)
+  -- "that count occurs in the cadence of the container's rate" (02, A2): it was taken from there
+  due-occurs : countOccurs (u .rate) due ≡ true
   unfolding bytesDue
-  due-fits = due-1-to-5 (u .rate) (sounded u es % length (cadence (u .rate))) (mod-lt (sounded u es) (cadence-some u l))
+  due-occurs = occurs-is (u .rate) _ .1 (record { place = sounded u es % length (cadence (u .rate)); within = mod-lt (sounded u es) (cadence-some u l); there = refl })
+
+  pub due-fits : (1 ≤ due) × (due ≤ 5)
+  due-fits = occurs-1-to-5 (u .rate) due due-occurs
 
   abbrev spoken : Bool → List container.Print
   spoken t = cond t (audioSaid u (sounded u es) es) []
 
   spoken-length : (t : Bool) → length (spoken t) ≡ cond t (length (u .mixes)) 0
   unfolding audioSaid
-  spoken-length true = said-length _ _ due _ (due-fits .0) (due-fits .1) 0 (u .mixes)
+  spoken-length true = said-length (u .rate) _ _ due _ due-occurs 0 (u .mixes)
   spoken-length false = refl
 
-  spoken-readable : (t : Bool) → printsReadable (cond t (length (u .mixes)) 0) (withBlanks (spoken t)) ≡ true
+  spoken-readable : (t : Bool) → printsReadable (u .rate) (cond t (length (u .mixes)) 0) (withBlanks (spoken t)) ≡ true
   unfolding withBlanks audioSaid
-  spoken-readable true = said-readable _ _ due _ (due-fits .0) (due-fits .1) 0 (u .mixes) _ (omega (arith, l .many)) (l .mixes) (blank-readable (length (spoken true)) 32)
-  spoken-readable false = blank-readable 0 32
+  spoken-readable true = said-readable (u .rate) _ _ due _ due-occurs 0 (u .mixes) _ (omega (arith, l .many)) (l .mixes) (blank-readable (u .rate) (length (spoken true)) 32)
+  spoken-readable false = blank-readable (u .rate) 0 32
+
+  spoken-counts : (t : Bool) → sameCount (take (cond t (length (u .mixes)) 0) (withBlanks (spoken t))) ≡ true
+  unfolding withBlanks audioSaid sameCount allCarry
+  spoken-counts true = said-counts (u .rate) _ _ due _ due-occurs 0 (u .mixes) _
+  spoken-counts false = refl
 
   spoken-typed : (t : Bool) → TypedPrints (withBlanks (spoken t))
   unfolding withBlanks audioSaid
-  spoken-typed true = said-typed _ _ due _ (due-fits .0) (due-fits .1) 0 (u .mixes) _ (blank-typed (length (spoken true)) 32)
+  spoken-typed true = said-typed (u .rate) _ _ due _ due-occurs 0 (u .mixes) _ (blank-typed (length (spoken true)) 32)
   spoken-typed false = blank-typed 0 32
 
   count-small : (t : Bool) → cond t (length (u .mixes)) 0 ≤ 32
@@ -276,6 +299,7 @@ module _ (u : Setup) (l : Listed u) (es : List Event) where
         video-readable (u .rate) _ (waiting-fits (u .format) (u .rate) (l .pairs) es),
         le-leb _ 32 (count-small t),
         spoken-readable t,
+        spoken-counts t,
       ) refl
 
   pub said-typed-as : (id : List ℕ) → Bytes id → Typed (contentsSaid u es id)

@@ -1,4 +1,4 @@
--- A container that reads with audio has a byte of it in its first fingerprint: "and that many bytes (1 to 5)" (01).
+-- A container that reads with audio has a byte of it in its first fingerprint: each count that "occurs in the cadence" (02, A2) is 1 or more.
 use Prim.Native.Nat.{ℕ, zero, suc, _+_, _/_, _%_, _<_}
 use mathlib.Core.Path.{_≡_}
 use mathlib.Core.Bool.{Bool, true, cond, false≢true}
@@ -6,16 +6,17 @@ use mathlib.Core.List.{List, _++_}
 use native.Mathlib.Nat.{not-suc-le-zero}
 use lib.Dec.{leb, eqb}
 use lib.ListN.{length, getD, drop}
-use borrow.Author.Tests.{leb-true}
 use Rattle.laws.proofs.Tests.{both, chosen}
 use Rattle.rates.specs.Mixes.{mixListed}
+use Rattle.rates.specs.Cadence.{countOccurs}
+use Rattle.rates.proofs.Table.{occurs-1-to-5}
 use Rattle.container.specs.declared.Print.{Print}
 use Rattle.container.specs.declared.PrintPart.{PrintPart}
 use Rattle.container.specs.declared.IdPart.{IdPart}
 use Rattle.container.specs.declared.VideoPart.{VideoPart}
 use Rattle.container.specs.declared.AudioPart.{AudioPart}
 use Rattle.container.specs.declared.Reading.{Reading}
-use Rattle.container.specs.Contents.{blankPrint}
+use Rattle.container.specs.Contents.{blankPrint, sameCount}
 use Rattle.container.specs.Parts.{noPrint, printAt, printPart, runOf, audioOf, audioPart}
 use Rattle.container.specs.Reading.{headerNumber, middle, partsJoined, partsReading, reading}
 
@@ -35,32 +36,32 @@ InPrint p = p .ok ≡ true → 0 < p .print .size
 not-ok : InPrint noPrint
 not-ok e = absurd (false≢true e)
 
-in-print : (b : List ℕ) → InPrint (printPart b)
+in-print : (rate : ℕ) (b : List ℕ) → InPrint (printPart rate b)
 unfolding printPart printAt
-in-print b =
+in-print rate b =
     guarded InPrint (leb 2 (length b)) not-ok
     (λ _. guarded InPrint (mixListed (getD b 0 0 % 8)) not-ok
     (λ _. guarded InPrint (eqb (getD b 1 0 % 8) 0) not-ok
-    (λ _. guarded InPrint (leb 1 (getD b 1 0 / 8)) not-ok
-    (λ some. guarded InPrint (leb (getD b 1 0 / 8) 5) not-ok
-    (λ _. guarded InPrint (leb (getD b 1 0 / 8 + 2) (length b)) not-ok (λ _ _. leb-true 1 (getD b 1 0 / 8) some))))))
+    (λ _. guarded InPrint (countOccurs rate (getD b 1 0 / 8)) not-ok
+    (λ o. guarded InPrint (leb (getD b 1 0 / 8 + 2) (length b)) not-ok (λ _ _. occurs-1-to-5 rate (getD b 1 0 / 8) o .0)))))
 
-in-run : (n : ℕ) (b : List ℕ) (ps : List Print) → runOf n b .ok ≡ true → SomeByte n (runOf n b .list ++ ps)
+in-run : (rate n : ℕ) (b : List ℕ) (ps : List Print) → runOf rate n b .ok ≡ true → SomeByte n (runOf rate n b .list ++ ps)
 unfolding runOf
-in-run zero b ps e = none
-in-run (suc n) b ps e = λ _. in-print b (both (printPart b .ok) _ e .0)
+in-run rate zero b ps e = none
+in-run rate (suc n) b ps e = λ _. in-print rate b (both (printPart rate b .ok) _ e .0)
 
 abbrev InAudio : AudioPart → Type 0
 InAudio a = SomeByte (a .count) (a .prints)
 
-in-audio : (flag : ℕ) (b : List ℕ) → InAudio (audioPart flag b)
+in-audio : (flag rate : ℕ) (b : List ℕ) → InAudio (audioPart flag rate b)
 unfolding audioPart audioOf
-in-audio flag b =
+in-audio flag rate b =
     let n : ℕ = getD b 0 0 / 8 + 1 in
     chosen InAudio (eqb flag 0) _ _ (λ _. none)
     (λ _. guarded InAudio (leb 1 (length b)) none
     (λ _. guarded InAudio (eqb (getD b 0 0 % 8) 2) none
-    (λ _. guarded InAudio (runOf n (drop 1 b) .ok) none (in-run n (drop 1 b) _))))
+    (λ _. guarded InAudio (runOf rate n (drop 1 b) .ok) none
+    (λ r. guarded InAudio (sameCount (runOf rate n (drop 1 b) .list)) none (λ _. in-run rate n (drop 1 b) _ r)))))
 
 abbrev InReading : Reading → Type 0
 InReading r = SomeByte (r .contents .count) (r .contents .prints)
@@ -76,4 +77,4 @@ in-parts counter flags b i v a h =
 pub some-byte : (s : List ℕ) → 0 < reading s .contents .count → 0 < getD (reading s .contents .prints) 0 blankPrint .size
 unfolding reading partsReading
 some-byte s =
-    guarded InReading (eqb (headerNumber s) 0) none (λ _. in-parts (getD s 1 0) (getD s 3 0) (middle s) _ _ _ (in-audio (getD s 3 0 % 2) _))
+    guarded InReading (eqb (headerNumber s) 0) none (λ _. in-parts (getD s 1 0) (getD s 3 0) (middle s) _ _ _ (in-audio (getD s 3 0 % 2) (getD s 3 0 / 16) _))

@@ -1,13 +1,18 @@
 -- Laws on lists that the kit does not have.
 use Prim.Native.Nat.{ℕ, zero, suc, _+_, _≤_, _<_}
-use mathlib.Core.Path.{_≡_, refl, sym, ap, _∙_}
+use mathlib.Core.Path.{_≡_, refl, sym, ap, subst, _∙_}
+use mathlib.Core.Bool.{Bool, true, false, or-true, false≢true}
+use mathlib.Core.Logic.{_↔_}
 use mathlib.Core.List.{List, [], _∷_, _++_}
 use native.Mathlib.Omega.{arith}
 use native.Mathlib.Numerals.{add-one}
 use native.Mathlib.Nat.{add-zero, add-suc, suc-add, zero-add, not-suc-le-zero, le-of-suc-le-suc}
 use lib.ListN.{length, getD, drop, set, replicate}
 use lib.Seq.{sets, sets-eq, set-out, drop-cons}
+use lib.Dec.{eqb}
+use borrow.Author.Tests.{eqb-true, eq-eqb}
 use Rattle.laws.specs.Calls.{over}
+use Rattle.laws.specs.Lists.{isOneOf, StandsIn}
 
 module _ {A : Type 0} where
   -- a run of stores, then one from where it ended
@@ -49,3 +54,23 @@ pub getD-padded : (l : List ℕ) (m i : ℕ) → getD (l ++ replicate m 0) i 0 �
 getD-padded [] m i = getD-zeros m i
 getD-padded (x ∷ l) m zero = refl
 getD-padded (x ∷ l) m (suc i) = getD-padded l m i
+
+-- ---- a number that stands in a list
+
+stands : (n : ℕ) (l : List ℕ) → isOneOf n l ≡ true → StandsIn n l
+unfolding isOneOf
+stands n [] e = absurd (false≢true e)
+stands n (x ∷ l) e = go (eqb n x) refl (λ t. stands n l (rw t at e))
+  where
+    go : (t : Bool) → eqb n x ≡ t → (eqb n x ≡ false → StandsIn n l) → StandsIn n (x ∷ l)
+    go true q r = record { place = 0; within = omega arith; there = sym (eqb-true n x q) }
+    go false q r = let s = r q in record { place = suc (s .place); within = omega (arith, s .within); there = s .there }
+
+is-one : (l : List ℕ) (i : ℕ) → i < length l → isOneOf (getD l i 0) l ≡ true
+unfolding isOneOf
+is-one [] i h = absurd (not-suc-le-zero h)
+is-one (x ∷ l) zero h = rw (eq-eqb x x refl)
+is-one (x ∷ l) (suc i) h = rw (is-one l i (le-of-suc-le-suc h)) (or-true (eqb (getD l i 0) x))
+
+pub stands-in : (n : ℕ) (l : List ℕ) → (isOneOf n l ≡ true) ↔ StandsIn n l
+stands-in n l = (stands n l, λ s. subst (λ (m : ℕ). isOneOf m l ≡ true) (s .there) (is-one l (s .place) (s .within)))

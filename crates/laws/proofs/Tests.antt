@@ -1,9 +1,10 @@
 -- Tests: their value from the fact, and the facts from a chain of them.
-use Prim.Native.Nat.{ℕ, _<_}
-use mathlib.Core.Path.{_≡_, refl, _∙_, sym}
+use Prim.Native.Nat.{ℕ, zero, suc, _<_}
+use mathlib.Core.Path.{_≡_, refl, ap, _∙_}
 use mathlib.Core.Bool.{Bool, true, false, cond, _&&_, false≢true}
 use native.Mathlib.Omega.{arith}
-use borrow.Author.Tests.{le-leb, lt-leb, lt-ltb, le-ltb, eq-eqb, ne-eqb}
+use lib.Dec.{eqb}
+use borrow.Author.Tests.{le-leb, lt-leb, lt-ltb, le-ltb, eq-eqb, ne-eqb, eqb-true, eqb-false}
 
 -- a test's value from the fact
 pub ruleset tests = (le-leb, lt-leb, lt-ltb, le-ltb, eq-eqb, ne-eqb)
@@ -33,3 +34,19 @@ chosen P false x y f g = g refl
 pub held : {A : Type 0} (P : A → Type 0) (t : Bool) (x y : A) → P (cond t x y) → (P y → ⊥) → (t ≡ true) × P x
 held P true x y h f = (refl, h)
 held P false x y h f = absurd (f h)
+
+-- whether p holds of each number below n
+unfoldable pub below : (ℕ → Bool) → ℕ → Bool
+below p zero = true
+below p (suc n) = p n && below p n
+
+pub at-below : (p : ℕ → Bool) (n k : ℕ) → below p n ≡ true → k < n → p k ≡ true
+unfolding below
+at-below p zero k e h = absurd (let z : ⊥ = omega arith in z)
+at-below p (suc n) k e h =
+    let b = both (p n) (below p n) e in
+    go (eqb k n) refl (b .0) (λ l. at-below p n k (b .1) l)
+  where
+    go : (t : Bool) → eqb k n ≡ t → p n ≡ true → (k < n → p k ≡ true) → p k ≡ true
+    go true x y r = ap p (eqb-true k n x) ∙ y
+    go false x y r = let q : (k ≡ n → ⊥) = eqb-false k n x in r (omega arith)

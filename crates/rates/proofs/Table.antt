@@ -1,7 +1,8 @@
 -- Laws of the cadences: the rows as the code holds them, and one test over the whole table.
 use Prim.Native.Nat.{ℕ, zero, suc, _+_, _-_, _%_, _≤_, _<_}
 use mathlib.Core.Path.{_≡_, refl, sym, ap, subst, _∙_}
-use mathlib.Core.Bool.{Bool, true, false, cond, _&&_}
+use mathlib.Core.Bool.{Bool, true, false, cond, _&&_, Bool·beq, and-false, false≢true}
+use mathlib.Core.Logic.{_↔_}
 use mathlib.Core.List.{List, [], _∷_, _++_, map}
 use native.Mathlib.Omega.{arith}
 use native.Mathlib.Nat.{le-of-suc-le-suc, not-suc-le-zero, mod-lt, mod-eq-of-lt, mod-self, mod-add-mod}
@@ -9,13 +10,13 @@ use native.Mathlib.Decide.{decLt}
 use lib.Dec.{leb, ltb}
 use lib.ListN.{length, getD, drop, replicate, List·getD-eq-default}
 use lib.Seq.{getD-drop}
-use borrow.Author.Tests.{leb-true, lt-ltb, le-ltb}
+use borrow.Author.Tests.{leb-true, lt-leb, lt-ltb, le-ltb}
 use Rattle.laws.specs.Sums.{sum}
-use Rattle.laws.proofs.Lists.{getD-padded}
-use Rattle.laws.proofs.Tests.{both}
+use Rattle.laws.proofs.Lists.{getD-padded, stands-in}
+use Rattle.laws.proofs.Tests.{both, below, at-below}
 use Rattle.rates.specs.Rates.{rateListed}
-use Rattle.rates.specs.Cadence.{cadences, cadence, frames, from, held, rowHeld, cycles, cycleBytes, sums, placeAfter}
-use Rattle.laws.specs.Lists.{isOneOf}
+use Rattle.rates.specs.Cadence.{cadences, cadence, countOccurs, frames, from, held, rowHeld, cycles, cycleBytes, sums, placeAfter}
+use Rattle.laws.specs.Lists.{isOneOf, StandsIn}
 
 -- within a list the default does not matter
 getD-within : (ls : List (List ℕ)) (k : ℕ) (y z : List ℕ) → k < length ls → getD ls k y ≡ getD ls k z
@@ -124,3 +125,59 @@ place-after code n h = go (decLt (n % m + 1) m)
         let l = mod-lt n h in
         let e : n % m + 1 ≡ m = omega arith in
         rw (le-ltb (n % m + 1) m (omega arith)) (sym (mod-self m) ∙ ap (λ (k : ℕ). k % m) (sym e) ∙ mod-add-mod n m 1)
+
+-- ---- which counts occur
+
+pub occurs-is : (code count : ℕ) → (countOccurs code count ≡ true) ↔ StandsIn count (cadence code)
+unfolding countOccurs
+occurs-is code count = stands-in count (cadence code)
+
+pub occurs-1-to-5 : (code count : ℕ) → countOccurs code count ≡ true → (1 ≤ count) × (count ≤ 5)
+occurs-1-to-5 code count e =
+    let s = occurs-is code count .0 e in
+    subst (λ (n : ℕ). (1 ≤ n) × (n ≤ 5)) (s .there) (due-1-to-5 code (s .place) (s .within))
+
+-- each row's fewest and most, as the code has them
+abbrev pub fewest : List ℕ
+fewest = 1 ∷ 1 ∷ 4 ∷ 5 ∷ 2 ∷ 4 ∷ 3 ∷ 4 ∷ 2 ∷ 2 ∷ 1 ∷ 2 ∷ []
+
+abbrev pub most : List ℕ
+most = 0 ∷ 0 ∷ 5 ∷ 5 ∷ 3 ∷ 5 ∷ 4 ∷ 4 ∷ 3 ∷ 3 ∷ 2 ∷ 2 ∷ []
+
+abbrev between : ℕ → ℕ → Bool
+between code count = leb (getD fewest code 0) count && leb count (getD most code 0)
+
+-- one test: of 0 to 5 a row has just the counts from its fewest to its most, and its most is at most 5
+abbrev ends-right : ℕ → Bool
+ends-right code = leb (getD most code 0) 5 && below (λ n. Bool·beq (countOccurs code n) (between code n)) 6
+
+all-right : below ends-right 12 ≡ true
+unfolding below countOccurs cadence cadences frames from isOneOf
+all-right = refl
+
+beq-true : (s t : Bool) → Bool·beq s t ≡ true → s ≡ t
+beq-true true true e = refl
+beq-true true false e = absurd (false≢true e)
+beq-true false true e = absurd (false≢true e)
+beq-true false false e = refl
+
+-- above 5 neither the row nor its ends have a count
+none-above : (code count : ℕ) → leb (getD most code 0) 5 ≡ true → 5 < count → countOccurs code count ≡ between code count
+none-above code count e h = go (countOccurs code count) refl
+  where
+    go : (t : Bool) → countOccurs code count ≡ t → countOccurs code count ≡ between code count
+    go true q = absurd (let z : ⊥ = omega (arith, occurs-1-to-5 code count q .1) in z)
+    go false q = q ∙ rw (lt-leb count (getD most code 0) (omega (arith, leb-true (getD most code 0) 5 e))) (sym (and-false (leb (getD fewest code 0) count)))
+
+pub occurs-between : (code count : ℕ) → code < 12 → countOccurs code count ≡ between code count
+occurs-between code count h =
+    let e = both (leb (getD most code 0) 5) _ (at-below ends-right 12 code all-right h) in
+    go (decLt count 6) e
+  where
+    go : Dec (count < 6) → (leb (getD most code 0) 5 ≡ true) × (below (λ n. Bool·beq (countOccurs code n) (between code n)) 6 ≡ true) → countOccurs code count ≡ between code count
+    go (yes l) e = beq-true _ _ (at-below (λ n. Bool·beq (countOccurs code n) (between code n)) 6 count (e .1) l)
+    go (no f) e = none-above code count (e .0) (omega arith)
+
+pub none-occurs : (code count : ℕ) → 12 ≤ code → countOccurs code count ≡ false
+unfolding countOccurs isOneOf
+none-occurs code count h = rw (no-cadence code h)

@@ -4,6 +4,7 @@ use Rattle.rates.proofs.rate_listed.Reads as rate-listed-reads
 use Rattle.rates.proofs.interval.Reads as interval-reads
 use Rattle.rates.proofs.bytes_due.Reads as bytes-due-reads
 use Rattle.rates.proofs.next_place.Reads as next-place-reads
+use Rattle.rates.proofs.count_occurs.Reads as count-occurs-reads
 use Rattle.rates.proofs.two_fields.Reads as two-fields-reads
 use Rattle.rates.proofs.pairs.Reads as pairs-reads
 use Rattle.rates.proofs.mix_listed.Reads as mix-listed-reads
@@ -19,6 +20,9 @@ bytes-due-unique κs a r r′ s s′ p q = one-value p q
 
 pub next-place-unique : OneResult next-place-reads.Post
 next-place-unique κs a r r′ s s′ p q = one-value p q
+
+pub count-occurs-unique : OneResult count-occurs-reads.Post
+count-occurs-unique κs a r r′ s s′ p q = one-value p q
 
 pub two-fields-unique : OneResult two-fields-reads.Post
 two-fields-unique κs a r r′ s s′ p q = one-value p q

@@ -38,6 +38,10 @@ cadences =
 unfoldable pub cadence : ℕ → List ℕ
 cadence code = getD cadences code []
 
+-- which counts of bytes a rate allows: "that count occurs in the cadence of the container's rate" (02, A2)
+unfoldable pub countOccurs : ℕ → ℕ → Bool
+countOccurs code count = isOneOf count (cadence code)
+
 -- "cyclic": the place after the last is the first, places counted from 0
 unfoldable pub placeAfter : ℕ → ℕ → ℕ
 placeAfter code place = cond (ltb (place + 1) (length (cadence code))) (place + 1) 0

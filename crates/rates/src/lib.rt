@@ -2,7 +2,7 @@
 ghost use mathlib.Core.Path.{_≡_};
 ghost use lib.ListN.{length, getD};
 ghost use Rattle.rates.specs.Rates.{rateListed, intervalOf, twoFields, pairsWith};
-ghost use Rattle.rates.specs.Cadence.{cadence, rowHeld, cycleBytes, placeAfter};
+ghost use Rattle.rates.specs.Cadence.{cadence, countOccurs, rowHeld, cycleBytes, placeAfter};
 ghost use Rattle.laws.specs.Sums.{sum};
 ghost use Rattle.rates.specs.Mixes.{mixListed};
 
@@ -13,6 +13,11 @@ const INTERVALS: [u8; 12] = [0, 0, 52, 50, 52, 50, 52, 50, 50, 50, 52, 50];
 
 // How many frames a cadence has, by rate code.
 const FRAMES: [u8; 12] = [0, 0, 16, 1, 32, 5, 20, 1, 2, 5, 40, 1];
+
+// The fewest and the most bytes that a frame of a cadence has, by rate code; a code that is not listed has no frame.
+const FEWEST: [u8; 12] = [1, 1, 4, 5, 2, 4, 3, 4, 2, 2, 1, 2];
+
+const MOST: [u8; 12] = [0, 0, 5, 5, 3, 5, 4, 4, 3, 3, 2, 2];
 
 // Whether a rate code is listed.
 pub fn rate_listed(code: u8) -> bool
@@ -77,6 +82,19 @@ pub fn next_place(code: u8, place: u8) -> u8
         return 0;
     }
     if place + 1 < count { place + 1 } else { 0 }
+}
+
+// Whether a container of this rate may carry fingerprints of so many bytes.
+pub fn count_occurs(code: u8, count: u8) -> bool
+    ensures { λ r. ⌜ r ≡ countOccurs code count ⌝ }
+{
+    if 12 <= code {
+        return false;
+    }
+    if count < FEWEST[code as usize] {
+        return false;
+    }
+    count <= MOST[code as usize]
 }
 
 // Whether a container of this rate may carry two video values.

@@ -1,35 +1,18 @@
 -- The table's rule, computed over the whole table once: every tap of every pixel lies in the line, and the 16 lines of each field in the raster.
-use Prim.Native.Nat.{ℕ, zero, suc, _+_, _*_, _≤_, _<_}
-use mathlib.Core.Path.{_≡_, refl, ap, _∙_}
-use mathlib.Core.Bool.{Bool, true, false, _&&_, _||_}
+use Prim.Native.Nat.{ℕ, _+_, _*_, _≤_, _<_}
+use mathlib.Core.Path.{_≡_, refl, ap}
+use mathlib.Core.Bool.{Bool, true, _&&_, _||_}
 use mathlib.Core.List.{[]}
-use native.Mathlib.Omega.{arith}
 use lib.Dec.{leb, ltb, eqb}
 use lib.ListN.{List·getD-eq-default}
-use borrow.Author.Tests.{leb-true, ltb-true, eqb-true, eqb-false, ne-eqb}
-use Rattle.laws.proofs.Tests.{both}
+use borrow.Author.Tests.{leb-true, ltb-true, ne-eqb}
+use Rattle.laws.proofs.Tests.{both, below, at-below}
 use Rattle.sampling.specs.declared.Row.{Row}
 use Rattle.sampling.specs.Formats.{table, named, rowOf}
 
 pub no-row : (f : ℕ) → 8 ≤ f → rowOf f ≡ named []
 unfolding rowOf table
 no-row f h = ap named (List·getD-eq-default table [] {n = f} h)
-
--- whether p holds of each number below n
-unfoldable pub below : (ℕ → Bool) → ℕ → Bool
-below p zero = true
-below p (suc n) = p n && below p n
-
-pub at-below : (p : ℕ → Bool) (n k : ℕ) → below p n ≡ true → k < n → p k ≡ true
-unfolding below
-at-below p zero k e h = absurd (let z : ⊥ = omega arith in z)
-at-below p (suc n) k e h =
-    let b = both (p n) (below p n) e in
-    go (eqb k n) refl (b .0) (λ l. at-below p n k (b .1) l)
-  where
-    go : (t : Bool) → eqb k n ≡ t → p n ≡ true → (k < n → p k ≡ true) → p k ≡ true
-    go true x y r = ap p (eqb-true k n x) ∙ y
-    go false x y r = let q : (k ≡ n → ⊥) = eqb-false k n x in r (omega arith)
 
 unfoldable rowRight : Row → Bool
 rowRight r =

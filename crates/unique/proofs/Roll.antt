@@ -53,6 +53,7 @@ use Rattle.rates.proofs.rate_listed.Reads as rates-rate-listed
 use Rattle.rates.proofs.interval.Reads as rates-interval
 use Rattle.rates.proofs.bytes_due.Reads as rates-bytes-due
 use Rattle.rates.proofs.next_place.Reads as rates-next-place
+use Rattle.rates.proofs.count_occurs.Reads as rates-count-occurs
 use Rattle.rates.proofs.two_fields.Reads as rates-two-fields
 use Rattle.rates.proofs.pairs.Reads as rates-pairs
 use Rattle.rates.proofs.mix_listed.Reads as rates-mix-listed
@@ -247,6 +248,9 @@ rates-bytes-due-unique = rates-theorems.bytes-due-unique
 
 pub rates-next-place-unique : OneResult rates-next-place.Post
 rates-next-place-unique = rates-theorems.next-place-unique
+
+pub rates-count-occurs-unique : OneResult rates-count-occurs.Post
+rates-count-occurs-unique = rates-theorems.count-occurs-unique
 
 pub rates-two-fields-unique : OneResult rates-two-fields.Post
 rates-two-fields-unique = rates-theorems.two-fields-unique

@@ -1,9 +1,22 @@
 // make/containers.rs: containers whole and damaged, the damage mended so that the later refusals are reached.
 
+use super::counts;
 use super::random::Random;
 use super::script::Script;
 use crate::container::{self, AudioPlace, Contents, VideoValues, ID_SIZE};
 use crate::feed::MOST_ROOM;
+use crate::formats::Rate;
+
+/// The byte counts of a rate's cadence, smallest first: one or two.
+pub fn allowed_counts(rate: u8) -> Vec<usize> {
+    let rate = Rate::coded(rate).expect("a listed rate");
+    (1..=5).filter(|&count| rate.cadence_has(count)).collect()
+}
+
+/// 25, 29.97 and 30 (01, What a caller is told: 26).
+pub fn has_two_fields(rate: u8) -> bool {
+    (5..=7).contains(&rate)
+}
 
 /// A fingerprint of so many bytes.
 pub fn audio_place(random: &mut Random, count: usize) -> AudioPlace {
@@ -12,7 +25,7 @@ pub fn audio_place(random: &mut Random, count: usize) -> AudioPlace {
     AudioPlace { id: random.below(32) as u8, mix_type: random.pick(&[1, 2, 5]), count: count as u8, bytes }
 }
 
-fn audio_count(random: &mut Random) -> usize {
+fn audio_number(random: &mut Random) -> usize {
     match random.below(8) {
         0 => random.pick(&[31, 32]),
         1 => 5 + random.below(27),
@@ -28,9 +41,9 @@ pub struct Wanted {
     pub audio: bool,
 }
 
-/// Contents as a reading gives them.
-pub fn contents(random: &mut Random, wanted: Wanted) -> Contents {
-    let mut contents = Contents::bare(random.byte(), 2 + random.below(10) as u8);
+/// Contents as a reading gives them, without audio.
+pub fn without_audio(random: &mut Random, rate: u8, wanted: Wanted) -> Contents {
+    let mut contents = Contents::bare(random.byte(), rate);
     if wanted.id || random.chance(30) {
         contents.id_present = true;
         contents.id.copy_from_slice(&random.bytes(ID_SIZE));
@@ -38,19 +51,21 @@ pub fn contents(random: &mut Random, wanted: Wanted) -> Contents {
     if wanted.video || random.chance(60) {
         let mut value = || random.pick(&[0, 1, 239, 240]).max(random.below(241) as u8 * (random.below(2) as u8));
         let (field_1, field_2) = (value(), value());
-        let two = random.chance(50);
-        if two {
-            contents.rate = random.pick(&[5, 6, 7]);
-        }
+        let two = has_two_fields(rate) && random.chance(70);
         contents.video = if two { VideoValues::Two(field_1, field_2) } else { VideoValues::One(field_1) };
     }
+    contents
+}
+
+/// Contents as a reading gives them: one count of the rate's cadence for all fingerprints (02, A2).
+pub fn contents(random: &mut Random, wanted: Wanted) -> Contents {
+    let rate = if random.chance(30) { random.pick(&[5, 6, 7]) } else { 2 + random.below(10) as u8 };
+    let mut contents = without_audio(random, rate, wanted);
     if wanted.audio || random.chance(60) {
-        let count = audio_count(random);
-        contents.audio_count = count as u8;
-        contents.audio[..count].fill_with(|| {
-            let size = 1 + random.below(5);
-            audio_place(random, size)
-        });
+        let number = audio_number(random);
+        let count = random.pick(&allowed_counts(rate));
+        contents.audio_count = number as u8;
+        contents.audio[..number].fill_with(|| audio_place(random, count));
     }
     contents
 }
@@ -164,7 +179,8 @@ fn damage_video(random: &mut Random) -> Vec<u8> {
     bytes
 }
 
-/// 27: header, mix type, low bits of the count's byte, a count of 0 or above 5, too few bytes.
+/// 27: header, mix type, low bits of the count's byte, a count of 0 or above 5, too few bytes; counts of 1 to 5 that
+/// break 02's A2 are in counts.rs.
 fn damage_audio(random: &mut Random) -> Vec<u8> {
     let wanted = Wanted { audio: true, ..Wanted::default() };
     let Made { mut bytes, audio_at, places, .. } = made(random, wanted);
@@ -235,15 +251,16 @@ fn damage_anywhere(random: &mut Random) -> Vec<u8> {
 
 /// A container that is whole, as a third of them are, or damaged in one of the ways above.
 pub fn any(random: &mut Random) -> Vec<u8> {
-    match random.below(12) {
-        0..=3 => made(random, Wanted::default()).bytes,
-        4 => damage_frame(random),
-        5 => damage_rate(random),
-        6 => damage_id(random),
-        7 => damage_video(random),
-        8 => damage_audio(random),
-        9 => damage_end(random),
-        10 => damage_frame(random),
+    match random.below(14) {
+        0..=4 => made(random, Wanted::default()).bytes,
+        5 => damage_frame(random),
+        6 => damage_rate(random),
+        7 => damage_id(random),
+        8 => damage_video(random),
+        9 => damage_audio(random),
+        10 => damage_end(random),
+        11 => damage_frame(random),
+        12 => counts::damaged(random),
         _ => damage_anywhere(random),
     }
 }

@@ -1,6 +1,7 @@
 // make/contents.rs: flat contents for Write, as a reading gives them or wrong in one place (01: number 29).
 
 use super::containers::{self, Wanted};
+use super::counts;
 use super::random::Random;
 use super::script::Script;
 use crate::container::{Contents, VideoValues};
@@ -61,7 +62,8 @@ fn damage_audio(random: &mut Random, flat: &mut [u8]) {
         1 => flat[AUDIO_COUNT] = flat[AUDIO_COUNT].wrapping_add(random.pick(&[1, 255])),
         2 => flat[place] = random.pick(&[31, 32, 33, 255]),
         3 => flat[place + 1] = random.pick(&[0, 3, 4, 6, 7, 8, 9, 10, 13, 255]),
-        4 => flat[place + 2] = random.pick(&[0, 1, 5, 6, 7, 32, 33, 255]),
+        // 32 more are the same five bits
+        4 => flat[place + 2] = random.pick(&[0, 1, 5, 6, 7, 32, 255, flat[place + 2].wrapping_add(32)]),
         5 => flat[place + 7] = random.pick(&[0, 1, 128]),
         6 => flat[place + 3 + random.below(5)] = random.byte(),
         _ => flat[AUDIO + random.below(256)] = random.pick(&[0, 1, 2, 255]),
@@ -84,6 +86,9 @@ pub fn damage_some(random: &mut Random, flat: &mut [u8]) {
 fn any(random: &mut Random) -> Vec<u8> {
     if random.chance(3) {
         return vec![0; FLAT_SIZE];
+    }
+    if random.chance(25) {
+        return flat(&counts::damaged_contents(random));
     }
     let mut flat = flat(&containers::contents(random, Wanted::default()));
     damage_some(random, &mut flat);

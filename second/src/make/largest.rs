@@ -1,13 +1,14 @@
-// make/largest.rs: sessions and contents whose containers are the largest or near it, 254 bytes (02, A7).
+// make/largest.rs: sessions and contents whose containers are the largest or near it: 254 bytes (02, A7), or the most
+// that another rate's counts allow (02, A2).
 
-use super::containers::{self, Wanted};
-use super::contents;
+use super::containers::{self, allowed_counts, has_two_fields, Wanted};
 use super::random::Random;
 use super::script::{pairs, Script};
 use super::sessions::sound_of_a_frame;
+use super::{contents, counts};
 use crate::container::{AudioPlace, Contents, VideoValues, ID_SIZE, MOST_FINGERPRINTS};
 use crate::feed::MOST_ROOM;
-use crate::formats::FORMATS;
+use crate::formats::{FORMATS, RATES};
 use crate::packet::{bytes_of_words, words_around};
 
 const LARGEST: usize = 254;
@@ -68,36 +69,53 @@ fn there_and_back(script: &mut Script, container: &[u8]) {
     }
 }
 
-/// Contents of 254 bytes, or with one part smaller.
-fn large_contents(random: &mut Random) -> Contents {
-    let mut contents = containers::contents(random, Wanted { id: true, ..Wanted::default() });
-    contents.rate = random.pick(&[FIVE_BYTES, FIVE_BYTES, 6, 7]);
+/// The largest contents of a rate: 254 bytes at 25 Hz.
+fn largest_contents(random: &mut Random, rate: u8) -> Contents {
+    let mut contents = containers::without_audio(random, rate, Wanted { id: true, ..Wanted::default() });
     let (field_1, field_2) = (random.below(241) as u8, random.below(241) as u8);
-    contents.video = VideoValues::Two(field_1, field_2);
-    contents.audio_count = MOST_FINGERPRINTS as u8;
-    contents.audio.fill_with(|| containers::audio_place(random, 5));
+    contents.video = if has_two_fields(rate) { VideoValues::Two(field_1, field_2) } else { VideoValues::One(field_1) };
+    let count = *allowed_counts(rate).last().expect("a cadence has a count");
+    counts::with_counts(random, &contents, &[count; MOST_FINGERPRINTS])
+}
+
+/// The largest container of a rate at every call that takes one, with just the room for it and one byte less.
+pub fn largest_of_rate(script: &mut Script, rate: u8) {
+    let contents = largest_contents(&mut script.random, rate);
+    let container = containers::written(&contents);
+    there_and_back(script, &container);
+    let flat = contents::flat(&contents);
+    script.with_room(0x25, container.len() - 1, &flat);
+    script.with_room(0x25, container.len(), &flat);
+}
+
+/// The largest contents of a rate, mostly of 25 Hz, or with one part smaller.
+fn large_contents(random: &mut Random) -> Contents {
+    let rate = if random.chance(60) { FIVE_BYTES } else { 2 + random.below(10) as u8 };
+    let mut contents = largest_contents(random, rate);
     match random.below(10) {
         0 => (contents.id_present, contents.id) = (false, [0; ID_SIZE]),
-        1 => contents.video = random.pick(&[VideoValues::None, VideoValues::One(field_1)]),
+        1 => contents.video = random.pick(&[VideoValues::None, VideoValues::One(240)]),
         2 => {
             let count = 28 + random.below(4);
             contents.audio_count = count as u8;
             contents.audio[count..].fill(AudioPlace::default());
         }
-        3 => {
-            let size = 1 + random.below(4);
-            contents.audio[random.below(MOST_FINGERPRINTS)] = containers::audio_place(random, size);
-        }
+        3 => contents = counts::with_counts(random, &contents, &[allowed_counts(rate)[0]; MOST_FINGERPRINTS]),
         _ => {}
     }
     contents
 }
 
 fn write(script: &mut Script) {
-    let contents = large_contents(&mut script.random);
-    let room = room(&mut script.random, containers::written(&contents).len());
+    let random = &mut script.random;
+    let mut contents = large_contents(random);
+    let room = room(random, containers::written(&contents).len());
+    if random.chance(15) {
+        let faulty = counts::faulty(random, contents.rate, usize::from(contents.audio_count));
+        contents = counts::with_counts(random, &contents, &faulty);
+    }
     let mut flat = contents::flat(&contents);
-    contents::damage_some(&mut script.random, &mut flat);
+    contents::damage_some(random, &mut flat);
     script.with_room(0x25, room, &flat);
 }
 
@@ -113,5 +131,6 @@ pub fn largest(random: Random, _seed: u64) -> Vec<u8> {
         there_and_back(&mut script, &container);
         (0..2 + script.random.below(3)).for_each(|_| write(&mut script));
     }
+    RATES.iter().for_each(|rate| largest_of_rate(&mut script, rate.code));
     script.feed
 }

@@ -3,6 +3,7 @@
 mod broken;
 mod containers;
 mod contents;
+mod counts;
 mod floats;
 mod instants;
 mod largest;
@@ -26,7 +27,7 @@ const fn kind(name: &'static str, make: fn(Random, u64) -> Vec<u8>, says: &'stat
     Kind { name, says, make }
 }
 
-pub const KINDS: [Kind; 14] = [
+pub const KINDS: [Kind; 15] = [
     kind("setup", sessions::setup, "setups listed and not, calls on empty sessions"),
     kind("session", sessions::session, "sessions of every format and rate: all calls, in and out of order"),
     kind("picture", sessions::picture, "sessions of every format and rate: mostly lines and packs"),
@@ -39,6 +40,7 @@ pub const KINDS: [Kind; 14] = [
     kind("container", containers::container, "containers whole and damaged, read and written again"),
     kind("packet", packets::packet, "packets whole and damaged, containers wrapped"),
     kind("write", contents::write, "flat contents whole and damaged"),
+    kind("counts", counts::counts, "byte counts that each rate has and has not, equal and unequal, at every call"),
     kind("broken", broken::broken, "feeds with a malformed record"),
     kind("bytes", containers::bytes, "no feed: the bytes of one container, for `inspect`"),
 ];

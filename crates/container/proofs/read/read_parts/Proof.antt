@@ -53,12 +53,12 @@ abbrev second : tie.After-read-audio → tie.After-read-video
 second c = c .before .before .before .before
 
 module _ (c : tie.After-read-audio) where
-  audio-is : c .read-audio .result ≡ audioPart (flags (first (second c)) % 2) (drop (q (second c)) (bytes (first (second c))))
+  audio-is : c .read-audio .result ≡ audioPart (flags (first (second c)) % 2) (flags (first (second c)) / 16) (drop (q (second c)) (bytes (first (second c))))
   audio-is = c .read-audio .ensures ∙ rw tail-part
 
   audio-within : q (second c) + c .read-audio .result .used ≤ length (bytes (first (second c)))
   audio-within =
-      let u = audio-used (flags (first (second c)) % 2) (drop (q (second c)) (bytes (first (second c)))) in
+      let u = audio-used (flags (first (second c)) % 2) (flags (first (second c)) / 16) (drop (q (second c)) (bytes (first (second c)))) in
       omega (arith, video-within (second c), ap (λ (a : AudioPart). a .used) audio-is, rw length-drop at u)
 
 read-id-requires : tie.Need-read-id-requires

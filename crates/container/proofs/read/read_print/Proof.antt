@@ -1,5 +1,5 @@
 -- `container::read::read_print` meets its contract: each answer by the tests that led to it.
-use Prim.Native.Nat.{ℕ, _+_, _-_, _/_, _%_}
+use Prim.Native.Nat.{ℕ, _-_, _/_, _%_, _≤_}
 use mathlib.Core.Path.{_≡_, sym, _∙_}
 use mathlib.Core.List.{List}
 use mathlib.Core.Bool.{true, false}
@@ -11,6 +11,8 @@ use lib.Seq.{length-take-le}
 use Rattle.laws.proofs.Tests.{tests}
 use Rattle.laws.proofs.Lists.{sets-over}
 use Rattle.rates.specs.Mixes.{mixListed}
+use Rattle.rates.specs.Cadence.{countOccurs}
+use Rattle.rates.proofs.Table.{occurs-1-to-5}
 use Rattle.container.specs.Parts.{printPart, printAt}
 use Rattle.container.proofs.Parts.{PrintRight, print-is}
 use borrow.Author.Needs.{needs}
@@ -22,6 +24,22 @@ unlisted c = sym (c .before .mix-listed .ensures) ∙ not-true _ (c .if2 .taken)
 
 listed : (c : tie.Else2) → mixListed (getD (c .before .before .before .before .before .before .args .b .now) 0 0 % 8) ≡ true
 listed c = sym (c .before .mix-listed .ensures) ∙ not-false _ (c .if2 .left)
+
+-- what the test of the count said
+abbrev bytes : tie.Else3 → List ℕ
+bytes c = c .before .before .before .before .before .before .before .args .b .now
+
+abbrev rate : tie.Else3 → ℕ
+rate c = c .before .before .before .before .before .before .before .args .rate
+
+strange : (c : tie.Then4) → countOccurs (rate (c .before .before)) (getD (bytes (c .before .before)) 1 0 / 8) ≡ false
+strange c = sym (c .before .count-occurs .ensures) ∙ not-true _ (c .if4 .taken)
+
+occurs : (c : tie.Else4) → countOccurs (rate (c .before .before)) (getD (bytes (c .before .before)) 1 0 / 8) ≡ true
+occurs c = sym (c .before .count-occurs .ensures) ∙ not-false _ (c .if4 .left)
+
+few : (c : tie.Else4) → getD (bytes (c .before .before)) 1 0 / 8 ≤ 5
+few c = occurs-1-to-5 (rate (c .before .before)) _ (occurs c) .1
 
 no-print-requires : tie.Need-no-print-requires
 no-print-requires c κs = search needs
@@ -53,32 +71,28 @@ returns-3 : tie.Need-returns-3
 unfolding printPart
 returns-3 c = rw (c .no-print3 .ensures) (search (tests, listed))
 
+count-occurs-requires : tie.Need-count-occurs-requires
+count-occurs-requires c κs = search needs
+
 no-print-requires-4 : tie.Need-no-print-requires-4
 no-print-requires-4 c κs = search needs
 
 returns-4 : tie.Need-returns-4
 unfolding printPart
-returns-4 c = rw (c .no-print4 .ensures) (search (tests, listed))
+returns-4 c = rw (c .no-print4 .ensures) (search (tests, listed, strange))
+
+cast-end : tie.Need-cast-end
+cast-end c = omega (arith, few c)
+
+add-end : tie.Need-add-end
+add-end c = omega (arith, few c)
 
 no-print-requires-5 : tie.Need-no-print-requires-5
 no-print-requires-5 c κs = search needs
 
 returns-5 : tie.Need-returns-5
 unfolding printPart
-returns-5 c = rw (c .no-print5 .ensures) (search (tests, listed))
-
-cast-end : tie.Need-cast-end
-cast-end c = search needs
-
-add-end : tie.Need-add-end
-add-end c = search needs
-
-no-print-requires-6 : tie.Need-no-print-requires-6
-no-print-requires-6 c κs = search needs
-
-returns-6 : tie.Need-returns-6
-unfolding printPart
-returns-6 c = rw (c .no-print6 .ensures) (search (tests, listed))
+returns-5 c = rw (c .no-print5 .ensures) (search (tests, listed, occurs))
 
 sub-copy-at : tie.Need-sub-copy-at
 sub-copy-at c = search needs
@@ -95,16 +109,18 @@ slice-aggregate-copy-at c = search needs
 copy-at-requires : tie.Need-copy-at-requires
 copy-at-requires c κs = search needs
 
-returns-7 : tie.Need-returns-7
+returns-6 : tie.Need-returns-6
 unfolding printAt
-returns-7 c =
-    let d = c .before .before .before .before .before .before .before .before in
-    let b : List ℕ = d .before .before .before .before .before .before .args .b .now in
+returns-6 c =
+    let e = c .before .before .before .before .before in
+    let d = e .before .before .before in
+    let b : List ℕ = bytes (e .before .before) in
     let n : ℕ = getD b 1 0 / 8 in
-    let right : PrintRight b =
-    record { two = omega arith; mix = listed d; low = search needs; some = omega arith; five = omega arith; fits = omega arith } in
+    let five = few e in
+    let right : PrintRight (rate (e .before .before)) b =
+    record { two = omega arith; mix = listed d; low = search needs; occurs = occurs e; fits = omega arith } in
     let l : length (take n (drop 2 b)) ≡ n = length-take-le n (drop 2 b) (rw length-drop (omega arith)) in
-    rw (c .before .copy-at .ensures, add-sub-cancel, sets-over (take n (drop 2 b)) (replicate 5 0) (omega arith)) (sym (print-is b right))
+    rw (c .before .copy-at .ensures, add-sub-cancel, sets-over (take n (drop 2 b)) (replicate 5 0) (omega arith)) (sym (print-is (rate (e .before .before)) b right))
 
 pub read-print-spec : {M : Type 1} → statement M
 read-print-spec =
@@ -119,17 +135,16 @@ read-print-spec =
     returns-2
     no-print-requires-3
     returns-3
+    count-occurs-requires
     no-print-requires-4
     returns-4
-    no-print-requires-5
-    returns-5
     cast-end
     add-end
-    no-print-requires-6
-    returns-6
+    no-print-requires-5
+    returns-5
     sub-copy-at
     part-copy-at-start
     part-copy-at-end
     slice-aggregate-copy-at
     copy-at-requires
-    returns-7)
+    returns-6)

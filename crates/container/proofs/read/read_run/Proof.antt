@@ -7,20 +7,21 @@ use native.Mathlib.Omega.{arith}
 use borrow.Author.Needs.{needs}
 use borrow.Author.Tests.{not-true, not-false}
 use lib.ListN.{length, set, take, drop, replicate, length-drop}
+use lib.Seq.{take-at}
 use Rattle.container.specs.declared.Print.{Print}
 use Rattle.container.specs.declared.PrintPart.{PrintPart}
-use Rattle.container.specs.Contents.{blankPrint}
-use Rattle.container.specs.Parts.{printPart, runOf, audioOf}
+use Rattle.container.specs.Contents.{blankPrint, sameCount}
+use Rattle.container.specs.Parts.{Run, printPart, runOf, audioOf}
 use Rattle.container.proofs.Parts.{tail-part, print-used}
 use Rattle.container.proofs.Runs.{fill-step, Going, going-start, going-step, going-bad, going-end, going-print, run-length, run-prints}
 use Rattle.container.proofs.read.read_run.Statement.{statement}
 use Rattle.container.proofs.read.read_run.Tie as tie
 
 abbrev Inv-loop : tie.InvT-loop
-Inv-loop n b prints₀ at₀ k₀ prints at k = (k ≤ n) × (at ≤ length b) × Going n b k at × (prints ≡ take k (runOf n b .list) ++ drop k (replicate 32 blankPrint))
+Inv-loop rate n b prints₀ at₀ k₀ prints at k = (k ≤ n) × (at ≤ length b) × Going rate n b k at × (prints ≡ take k (runOf rate n b .list) ++ drop k (replicate 32 blankPrint))
 
 abbrev μ-loop : tie.MeasureT-loop
-μ-loop n b prints₀ at₀ k₀ prints at k = n - k
+μ-loop rate n b prints₀ at₀ k₀ prints at k = n - k
 
 module _ (c : tie.After-read-print Inv-loop μ-loop) where
   abbrev b : List ℕ
@@ -29,27 +30,30 @@ module _ (c : tie.After-read-print Inv-loop μ-loop) where
   abbrev n : ℕ
   n = c .before .before .before .before .before .before .args .n
 
-  what : c .read-print .result ≡ printPart (drop (c .before .before .before .loop .at) b)
-  what = c .read-print .ensures ∙ ap printPart (tail-part b (c .before .before .before .loop .at))
+  abbrev rate : ℕ
+  rate = c .before .before .before .before .before .before .args .rate
 
-wrong : (c : tie.Then1 Inv-loop μ-loop) → printPart (drop (c .before .before .before .before .loop .at) (b (c .before))) .ok ≡ false
+  what : c .read-print .result ≡ printPart rate (drop (c .before .before .before .loop .at) b)
+  what = c .read-print .ensures ∙ ap (printPart rate) (tail-part b (c .before .before .before .loop .at))
+
+wrong : (c : tie.Then1 Inv-loop μ-loop) → printPart (rate (c .before)) (drop (c .before .before .before .before .loop .at) (b (c .before))) .ok ≡ false
 wrong c = ap (λ (p : PrintPart). p .ok) (sym (what (c .before))) ∙ not-true _ (c .if1 .taken)
 
-right : (c : tie.Else1 Inv-loop μ-loop) → printPart (drop (c .before .before .before .before .loop .at) (b (c .before))) .ok ≡ true
+right : (c : tie.Else1 Inv-loop μ-loop) → printPart (rate (c .before)) (drop (c .before .before .before .before .loop .at) (b (c .before))) .ok ≡ true
 right c = ap (λ (p : PrintPart). p .ok) (sym (what (c .before))) ∙ not-false _ (c .if1 .left)
 
 -- the next place is within b
 within : (c : tie.Else1 Inv-loop μ-loop) → c .before .before .before .before .loop .at + c .before .read-print .result .used ≤ length (b (c .before))
 within c =
     let at = c .before .before .before .before .loop .at in
-    let u = print-used (drop at (b (c .before))) (right c) in
+    let u = print-used (rate (c .before)) (drop at (b (c .before))) (right c) in
     omega (arith, rw length-drop at u, ap (λ (p : PrintPart). p .used) (what (c .before)))
 
 blank-print-requires : tie.Need-blank-print-requires Inv-loop μ-loop
 blank-print-requires c κs = search needs
 
 loop-holds : tie.Need-loop-holds Inv-loop μ-loop
-loop-holds c = (omega arith, omega arith, going-start _ _, rw (c .blank-print .ensures))
+loop-holds c = (omega arith, omega arith, going-start _ _ _, rw (c .blank-print .ensures))
 
 sub-read-print : tie.Need-sub-read-print Inv-loop μ-loop
 sub-read-print c = search needs
@@ -70,7 +74,7 @@ returns : tie.Need-returns Inv-loop μ-loop
 unfolding audioOf
 returns c =
     let l = c .before .before .before .before .before .loop in
-    rw (c .no-audio .ensures, going-bad (n (c .before .before)) (b (c .before .before)) (l .k) (l .at) (l .inv .2) (omega arith) (wrong (c .before)))
+    rw (c .no-audio .ensures, going-bad (rate (c .before .before)) (n (c .before .before)) (b (c .before .before)) (l .k) (l .at) (l .inv .2) (omega arith) (wrong (c .before)))
 
 mul-prints : tie.Need-mul-prints Inv-loop μ-loop
 mul-prints c = search needs
@@ -91,30 +95,60 @@ loop-again : tie.Need-loop-again Inv-loop μ-loop
 loop-again c =
     let e = c .before in
     let l = e .before .before .before .before .loop in
-    let step = going-step (n (e .before)) (b (e .before)) (l .k) (l .at) (l .inv .2) (omega arith) (right e) in (
+    let step = going-step (rate (e .before)) (n (e .before)) (b (e .before)) (l .k) (l .at) (l .inv .2) (omega arith) (right e) in (
       omega arith,
       within e,
-      subst (λ (u : ℕ). Going (n (e .before)) (b (e .before)) (l .k + 1) (l .at + u)) (sym (ap (λ (p : PrintPart). p .used) (what (e .before)))) step,
+      subst (λ (u : ℕ). Going (rate (e .before)) (n (e .before)) (b (e .before)) (l .k + 1) (l .at + u)) (sym (ap (λ (p : PrintPart). p .used) (what (e .before)))) step,
       ap (λ (o : List Print). set o (l .k) (e .before .read-print .result .print)) (l .inv .3)
-          ∙ fill-step blankPrint (replicate 32 blankPrint) (runOf (n (e .before)) (b (e .before)) .list) (l .k) _ (omega arith) (rw run-length (omega arith))
+          ∙ fill-step blankPrint (replicate 32 blankPrint) (runOf (rate (e .before)) (n (e .before)) (b (e .before)) .list) (l .k) _ (omega arith) (rw run-length (omega arith))
           (ap (λ (p : PrintPart). p .print) (what (e .before))
-          ∙ sym (going-print (n (e .before)) (b (e .before)) (l .k) (l .at) (l .inv .2) (omega arith))),
+          ∙ sym (going-print (rate (e .before)) (n (e .before)) (b (e .before)) (l .k) (l .at) (l .inv .2) (omega arith))),
     )
 
-add-t18 : tie.Need-add-t18 Inv-loop μ-loop
-add-t18 c = search needs
+-- the run's end
+module _ (c : tie.After-loop Inv-loop μ-loop) where
+  abbrev start : tie.Start Inv-loop μ-loop
+  start = c .before .before .before .before
 
-cast-t19 : tie.Need-cast-t19 Inv-loop μ-loop
-cast-t19 c = search needs
+  abbrev run : Run
+  run = runOf (start .args .rate) (start .args .n) (start .args .b .now)
+
+  ended : (run .ok ≡ true) × (run .used ≡ c .before .loop .at)
+  ended = going-end (start .args .rate) (start .args .n) (start .args .b .now) (c .before .loop .k) (c .before .loop .at) (c .before .loop .inv .2) (omega arith)
+
+  filled : c .before .loop .prints ≡ run .list ++ drop (start .args .n) (replicate 32 blankPrint)
+  filled = c .before .loop .inv .3 ∙ run-prints (start .args .rate) (start .args .n) (start .args .b .now) (c .before .loop .k) (replicate 32 blankPrint) (omega arith)
+
+  first : take (start .args .n) (c .before .loop .prints) ≡ run .list
+  first = ap (take (start .args .n)) filled ∙ take-at (run .list) _ (start .args .n) (run-length (start .args .rate) (start .args .n) (start .args .b .now))
+
+same : (c : tie.After-same-count Inv-loop μ-loop) → c .same-count .result ≡ sameCount (run (c .before) .list)
+same c = c .same-count .ensures ∙ ap sameCount (first (c .before))
+
+same-count-requires : tie.Need-same-count-requires Inv-loop μ-loop
+same-count-requires c κs = search needs
+
+no-audio-requires-2 : tie.Need-no-audio-requires-2 Inv-loop μ-loop
+no-audio-requires-2 c κs = search needs
 
 returns-2 : tie.Need-returns-2 Inv-loop μ-loop
 unfolding audioOf
 returns-2 c =
-    let l = c .before .loop in
-    let s = c .before .before .before .before in
-    let e = going-end (s .args .n) (s .args .b .now) (l .k) (l .at) (l .inv .2) (omega arith) in
-    let o = l .inv .3 ∙ run-prints (s .args .n) (s .args .b .now) (l .k) (replicate 32 blankPrint) (omega arith) in
-    rw (o, e .0, e .1)
+    let d = c .before .before in
+    rw (c .no-audio2 .ensures, ended (d .before) .0, sym (same d) ∙ not-true _ (c .before .if2 .taken))
+
+add-t22 : tie.Need-add-t22 Inv-loop μ-loop
+add-t22 c = search needs
+
+cast-t23 : tie.Need-cast-t23 Inv-loop μ-loop
+cast-t23 c = search needs
+
+returns-3 : tie.Need-returns-3 Inv-loop μ-loop
+unfolding audioOf
+returns-3 c =
+    let d = c .before in
+    let e = ended (d .before) in
+    rw (filled (d .before), e .0, e .1, sym (same d) ∙ not-false _ (c .if2 .left))
 
 pub read-run-spec : {M : Type 1} → statement M
 read-run-spec =
@@ -136,6 +170,9 @@ read-run-spec =
     add-k
     loop-less
     loop-again
-    add-t18
-    cast-t19
-    returns-2)
+    same-count-requires
+    no-audio-requires-2
+    returns-2
+    add-t22
+    cast-t23
+    returns-3)

@@ -15,24 +15,30 @@ use Rattle.container.proofs.valid.prints_readable.Statement.{statement}
 use Rattle.container.proofs.valid.prints_readable.Tie as tie
 
 abbrev Inv-loop : tie.InvT-loop
-Inv-loop n prints k₀ k = (k ≤ 32) × (printsReadable n prints ≡ printsReadable (n - k) (drop k prints))
+Inv-loop rate n prints k₀ k = (k ≤ 32) × (printsReadable rate n prints ≡ printsReadable rate (n - k) (drop k prints))
 
 abbrev μ-loop : tie.MeasureT-loop
-μ-loop n prints k₀ k = 32 - k
+μ-loop rate n prints k₀ k = 32 - k
 
-many : (c : tie.Start Inv-loop μ-loop) → length (c .args .t1) ≡ 32
-many c = c .good .0 .1 .0 .1
+many : (c : tie.Start Inv-loop μ-loop) → length (c .args .t2) ≡ 32
+many c = c .good .1 .0 .1 .0 .1
 
 -- the test so far, with this turn's place
-turn : (c : tie.After-place-readable Inv-loop μ-loop)
-    → printsReadable (c .before .before .before .before .args .n) (c .before .before .before .before .args .t1)
-    ≡ (c .place-readable .result && printsReadable (c .before .before .before .before .args .n - (c .before .before .before .loop .k + 1)) (drop (c .before .before .before .loop .k + 1) (c .before .before .before .before .args .t1)))
-turn c =
-    let l = c .before .before .before .loop in
-    let s = c .before .before .before .before in
-    l .inv .1
-    ∙ place-step (s .args .n) (s .args .t1) (l .k) (record { id = 0; mix = 0; size = 0; bytes = [] }) (omega (arith, many s, c .before .before .loop-test .taken))
-    ∙ ap (λ (t : Bool). t && printsReadable (s .args .n - (l .k + 1)) (drop (l .k + 1) (s .args .t1))) (sym (c .place-readable .ensures))
+module _ (c : tie.After-place-readable Inv-loop μ-loop) where
+  abbrev start : tie.Start Inv-loop μ-loop
+  start = c .before .before .before .before
+
+  abbrev k : ℕ
+  k = c .before .before .before .loop .k
+
+  abbrev rest : Bool
+  rest = printsReadable (start .args .rate) (start .args .n - (k + 1)) (drop (k + 1) (start .args .t2))
+
+  turn : printsReadable (start .args .rate) (start .args .n) (start .args .t2) ≡ (c .place-readable .result && rest)
+  turn =
+      c .before .before .before .loop .inv .1
+      ∙ place-step (start .args .rate) (start .args .n) (start .args .t2) k (record { id = 0; mix = 0; size = 0; bytes = [] }) (omega (arith, many start, c .before .before .loop-test .taken))
+      ∙ ap (λ (t : Bool). t && rest) (sym (c .place-readable .ensures))
 
 loop-holds : tie.Need-loop-holds Inv-loop μ-loop
 loop-holds c = (omega arith, rw sub-zero)
@@ -62,7 +68,7 @@ returns-2 : tie.Need-returns-2 Inv-loop μ-loop
 returns-2 c =
     let l = c .before .loop in
     let s = c .before .before in
-    sym (l .inv .1 ∙ place-end (s .args .n) (s .args .t1) (l .k) (omega (arith, many s, c .loop-test .left)))
+    sym (l .inv .1 ∙ place-end (s .args .rate) (s .args .n) (s .args .t2) (l .k) (omega (arith, many s, c .loop-test .left)))
 
 pub prints-readable-spec : {M : Type 1} → statement M
 prints-readable-spec =

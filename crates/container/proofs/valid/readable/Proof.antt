@@ -4,7 +4,8 @@ use mathlib.Core.Bool.{true, false}
 use borrow.Author.Tests.{not-true, not-false}
 use Rattle.laws.proofs.Tests.{tests}
 use Rattle.rates.specs.Rates.{rateListed}
-use Rattle.container.specs.Writing.{idReadable, videoReadable, readable}
+use Rattle.container.specs.declared.Contents.{Contents}
+use Rattle.container.specs.Writing.{idReadable, videoReadable, printsReadable, readable}
 use borrow.Author.Needs.{needs}
 use Rattle.container.proofs.valid.readable.Statement.{statement}
 use Rattle.container.proofs.valid.readable.Tie as tie
@@ -26,6 +27,15 @@ video-bad c = sym (c .before .video-readable .ensures) ∙ not-true _ (c .if3 .t
 
 video-good : (c : tie.Else3) → videoReadable (c .before .before .before .before .before .before .before .args .c .rate) (c .before .before .before .before .before .before .before .args .c .video) ≡ true
 video-good c = sym (c .before .video-readable .ensures) ∙ not-false _ (c .if3 .left)
+
+abbrev given : tie.After-prints-readable → Contents
+given c = c .before .before .before .before .before .before .before .before .before .before .before .args .c
+
+prints-bad : (c : tie.Then5) → printsReadable (given (c .before) .rate) (given (c .before) .count) (given (c .before) .prints) ≡ false
+prints-bad c = sym (c .before .prints-readable .ensures) ∙ not-true _ (c .if5 .taken)
+
+prints-good : (c : tie.Else5) → printsReadable (given (c .before) .rate) (given (c .before) .count) (given (c .before) .prints) ≡ true
+prints-good c = sym (c .before .prints-readable .ensures) ∙ not-false _ (c .if5 .left)
 
 rate-listed-requires : tie.Need-rate-listed-requires
 rate-listed-requires c κs = search needs
@@ -60,7 +70,14 @@ prints-readable-requires c κs = search needs
 
 returns-5 : tie.Need-returns-5
 unfolding readable
-returns-5 c = rw (c .prints-readable .ensures) (search (tests, rate-good, id-good, video-good))
+returns-5 c = search (tests, rate-good, id-good, video-good, prints-bad)
+
+same-count-requires : tie.Need-same-count-requires
+same-count-requires c κs = search needs
+
+returns-6 : tie.Need-returns-6
+unfolding readable
+returns-6 c = rw (c .same-count .ensures) (search (tests, rate-good, id-good, video-good, prints-good))
 
 pub readable-spec : {M : Type 1} → statement M
 readable-spec =
@@ -75,4 +92,6 @@ readable-spec =
     cast-n
     returns-4
     prints-readable-requires
-    returns-5)
+    returns-5
+    same-count-requires
+    returns-6)
