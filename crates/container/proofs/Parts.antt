@@ -1,13 +1,13 @@
 -- Laws of reading: what a right fingerprint and a header with no fault say, how many bytes a part takes, and the outcome from the parts' outcomes.
 use Prim.Native.Nat.{ℕ, zero, suc, _+_, _-_, _/_, _%_, _≤_, _<_}
-use mathlib.Core.List.{List, [], _∷_, _++_}
-use mathlib.Core.Path.{_≡_, refl, ap, sym, _∙_}
-use mathlib.Core.Bool.{Bool, true, false, cond, _&&_, false≢true}
+use mathlib.Core.List.{List, _++_}
+use mathlib.Core.Path.{_≡_}
+use mathlib.Core.Bool.{Bool, true, false, cond, false≢true}
 use native.Mathlib.Omega.{arith}
-use lib.ListN.{length, getD, take, drop, length-drop}
+use lib.ListN.{length, getD, take, drop, replicate, length-drop}
 use lib.Seq.{take-all}
 use lib.Dec.{leb, ltb, eqb}
-use borrow.Author.Tests.{leb-true, ltb-true, eqb-true, eq-eqb, ne-eqb}
+use borrow.Author.Tests.{leb-true, ltb-true, eqb-true, eqb-false, eq-eqb, ne-eqb}
 use Rattle.laws.specs.Sums.{sum}
 use Rattle.laws.proofs.Tests.{tests, both, past, chosen, held}
 use Rattle.rates.specs.Rates.{rateListed, twoFields}
@@ -17,9 +17,9 @@ use Rattle.container.specs.declared.IdPart.{IdPart}
 use Rattle.container.specs.declared.VideoPart.{VideoPart}
 use Rattle.container.specs.declared.PrintPart.{PrintPart}
 use Rattle.container.specs.declared.AudioPart.{AudioPart}
-use Rattle.container.specs.Contents.{sameCount}
-use Rattle.container.specs.Parts.{noPrint, idPart, oneField, bothFields, videoPart, printPart, printAt, runOf, audioOf, audioPart}
-use Rattle.container.specs.Reading.{headerNumber, refusal, partsSay, partsJoined, idIn, videoIn, audioIn, partsReading}
+use Rattle.container.specs.Contents.{blankPrint, blanks, sameCount}
+use Rattle.container.specs.Parts.{noPrint, idPart, oneField, bothFields, videoPart, printPart, printAt, Run, runOf, noAudio, audioOf, audioPart}
+use Rattle.container.specs.Reading.{headerNumber, refusal, partsSay, partsJoined, idIn, partsReading}
 
 pub tail-part : (s : List ℕ) (p : ℕ) → take (length s - p) (drop p s) ≡ drop p s
 tail-part s p = take-all (length s - p) (drop p s) (rw length-drop (omega arith))
@@ -138,19 +138,41 @@ video-used flag rate b =
     (λ _. chosen P (leb (getD b 2 0) 240) _ _ (λ _. leb-true _ _ e₃) (λ _. none)) (λ _. none)) (λ _. none)) (λ _. none)) (λ _. none)))
     (λ _. none))
 
-pub audio-used : (flag rate : ℕ) (b : List ℕ) → audioPart flag rate b .used ≤ length b
+-- ---- the audio part, by the ways that it is read
+
+abbrev pub countIn : List ℕ → ℕ
+countIn b = getD b 0 0 / 8 + 1
+
+abbrev pub runIn : ℕ → List ℕ → Run
+runIn rate b = runOf rate (countIn b) (drop 1 b)
+
+-- it is there and right
+pub record Heard (flag rate : ℕ) (b : List ℕ) : Type 0 where
+  pub flagged : flag ≡ 0 → ⊥
+  pub some : 1 ≤ length b
+  pub form : getD b 0 0 % 8 ≡ 2
+  pub run : runIn rate b .ok ≡ true
+  pub counts : sameCount (runIn rate b .list) ≡ true
+
+-- a fact about it, from the fact where it is absent, wrong, or there and right
+pub audio-cases : (P : AudioPart → Type 0) (flag rate : ℕ) (b : List ℕ)
+    → (flag ≡ 0 → P (record { ok = true; used = 0; count = 0; prints = replicate 32 blankPrint })) → P noAudio
+    → (Heard flag rate b → P (record { ok = true; used = runIn rate b .used + 1; count = countIn b; prints = runIn rate b .list ++ blanks (countIn b) }))
+    → P (audioPart flag rate b)
 unfolding audioPart audioOf
+audio-cases P flag rate b absent wrong right =
+    chosen P (eqb flag 0) _ _ (λ f. absent (eqb-true flag 0 f))
+    (λ f. chosen P (leb 1 (length b)) _ _
+    (λ l. chosen P (eqb (getD b 0 0 % 8) 2) _ _
+    (λ q. chosen P (runIn rate b .ok) _ _
+    (λ r. chosen P (sameCount (runIn rate b .list)) _ _
+    (λ c. right (record { flagged = eqb-false flag 0 f; some = leb-true 1 (length b) l; form = eqb-true (getD b 0 0 % 8) 2 q; run = r; counts = c }))
+    (λ _. wrong)) (λ _. wrong)) (λ _. wrong)) (λ _. wrong))
+
+pub audio-used : (flag rate : ℕ) (b : List ℕ) → audioPart flag rate b .used ≤ length b
 audio-used flag rate b =
-    let P : AudioPart → Type 0 = λ p. p .used ≤ length b in
-    let none : 0 ≤ length b = omega arith in
-    let n = getD b 0 0 / 8 + 1 in
-    chosen P (eqb flag 0) _ _ (λ _. none)
-    (λ _. chosen P (leb 1 (length b)) _ _
-    (λ e. chosen P (eqb (getD b 0 0 % 8) 2) _ _
-    (λ _. chosen P (runOf rate n (drop 1 b) .ok) _ _
-    (λ r. chosen P (sameCount (runOf rate n (drop 1 b) .list)) _ _
-    (λ _. let u = run-used rate n (drop 1 b) r in omega (arith, rw length-drop at u, leb-true 1 (length b) e)) (λ _. none)) (λ _. none)) (λ _. none))
-    (λ _. none))
+    audio-cases (λ (p : AudioPart). p .used ≤ length b) flag rate b (λ _. omega arith) (omega arith)
+    (λ h. let u = run-used rate (countIn b) (drop 1 b) (h .run) in omega (arith, rw length-drop at u, h .some))
 
 -- ---- the outcome from the parts' outcomes
 

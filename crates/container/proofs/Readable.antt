@@ -15,7 +15,7 @@ use Rattle.rates.specs.Rates.{rateListed}
 use Rattle.rates.specs.Mixes.{mixListed}
 use Rattle.rates.specs.Cadence.{countOccurs}
 use Rattle.rates.proofs.Mixes.{mix-small}
-use Rattle.rates.proofs.Table.{occurs-1-to-5}
+use Rattle.rates.proofs.Table.{at-most-11, occurs-1-to-5}
 use Rattle.container.specs.declared.Print.{Print}
 use Rattle.container.specs.declared.Contents.{Contents}
 use Rattle.container.specs.Contents.{blankPrint, allCarry, sameCount}
@@ -115,15 +115,11 @@ passes c e =
     let q₅ = both (printsReadable (c .rate) (c .count) (c .prints)) _ (q₄ .1) in
     record { rate = q₁ .0; id = q₂ .0; video = q₃ .0; many = leb-true _ _ (q₄ .0); prints = q₅ .0; counts = q₅ .1 }
 
-rate-at-most-11 : (rate : ℕ) → rateListed rate ≡ true → rate ≤ 11
-unfolding rateListed
-rate-at-most-11 rate e = leb-true rate 11 (both (leb 2 rate) (leb rate 11) e .1)
-
 pub readable-fits : (c : Contents) → length (c .prints) ≡ 32 → readable c ≡ true → Fits c
 readable-fits c l e =
     let p = passes c e in
     let many = p .many in
     record {
-      rate = rate-at-most-11 (c .rate) (p .rate);
+      rate = at-most-11 (c .rate) (p .rate);
       run = record { many = many; each = λ k h. print-fits (c .rate) _ (each-readable (c .rate) (c .count) (c .prints) (omega arith) (p .prints) k h) };
     }

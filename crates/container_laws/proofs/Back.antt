@@ -2,11 +2,11 @@
 use Prim.Native.Nat.{ℕ, zero, suc, _+_, _-_, _*_, _/_, _%_, _≤_, _<_}
 use mathlib.Core.List.{List, [], _∷_, _++_}
 use mathlib.Core.Path.{_≡_, refl, ap, sym, _∙_}
-use mathlib.Core.Bool.{Bool, true, false, cond, _&&_, false≢true}
+use mathlib.Core.Bool.{Bool, true, false, cond, false≢true}
 use native.Mathlib.Omega.{arith}
 use native.Mathlib.Nat.{not-suc-le-zero, le-of-suc-le-suc}
 use native.Mathlib.Numerals.{add-one, add-two}
-use lib.ListN.{length, getD, take, drop, replicate, length-append, length-drop}
+use lib.ListN.{length, getD, take, drop, replicate, length-drop}
 use lib.Seq.{length-take-le, take-suc, take-add, take-at, take-length}
 use lib.Dec.{leb, eqb}
 use borrow.Author.Tests.{leb-true, eqb-true, eqb-false, eq-eqb, ne-eqb}
@@ -21,11 +21,11 @@ use Rattle.container.specs.declared.VideoPart.{VideoPart}
 use Rattle.container.specs.declared.PrintPart.{PrintPart}
 use Rattle.container.specs.declared.AudioPart.{AudioPart}
 use Rattle.container.specs.declared.Reading.{Reading}
-use Rattle.container.specs.Contents.{blankPrint, sameCount}
+use Rattle.container.specs.Contents.{blankPrint}
 use Rattle.container.specs.Bytes.{idBytes, videoBytes, printBytes, runBytes, audioBytes, videoFlag, audioFlag, partBytes, flagByte, frontBytes, checkByte, encode}
-use Rattle.container.specs.Parts.{noVideo, noId, noAudio, idPart, oneField, bothFields, videoPart, printPart, printAt, runOf, audioOf, audioPart}
+use Rattle.container.specs.Parts.{noVideo, idPart, oneField, bothFields, videoPart, printPart, printAt, runOf, audioPart}
 use Rattle.container.specs.Reading.{headerNumber, refusal, partsSay, partsJoined, idIn, videoIn, audioIn, partsReading, middle, reading}
-use Rattle.container.proofs.Parts.{HeaderRight, header-right, PrintRight, print-right, print-is, parts-0}
+use Rattle.container.proofs.Parts.{HeaderRight, header-right, PrintRight, print-right, print-is, parts-0, audio-cases, countIn, runIn}
 use Rattle.container.proofs.Runs.{run-length}
 use Rattle.container.proofs.Bytes.{audio-none, audio-some}
 
@@ -109,27 +109,16 @@ abbrev AudioBack : ℕ → List ℕ → AudioPart → Type 0
 AudioBack flag b g = g .ok ≡ true → (audioBytes (g .count) (g .prints) ≡ take (g .used) b) × (audioFlag (g .count) ≡ flag)
 
 audio-back : (flag rate : ℕ) (b : List ℕ) → flag ≤ 1 → AudioBack flag b (audioPart flag rate b)
-unfolding audioPart audioOf
 audio-back flag rate b h =
-    let P = AudioBack flag b in
-    let bad : P noAudio = λ e. absurd (false≢true e) in
-    let z : ℕ = getD b 0 0 in
-    let n : ℕ = z / 8 + 1 in
-    chosen P (eqb flag 0) _ _ (λ q _. (audio-none 0 _ refl, sym (eqb-true flag 0 q)))
-    (λ d. chosen P (leb 1 (length b)) _ _
-    (λ l. chosen P (eqb (z % 8) 2) _ _
-    (λ q. chosen P (runOf rate n (drop 1 b) .ok) _ _
-    (λ r. chosen P (sameCount (runOf rate n (drop 1 b) .list)) _ _
-    (λ _ _.
-    let run = runOf rate n (drop 1 b) in
+    audio-cases (AudioBack flag b) flag rate b (λ f _. (audio-none 0 _ refl, sym f)) (λ e. absurd (false≢true e))
+    (λ a _.
+    let n : ℕ = countIn b in
+    let run = runIn rate b in
     let e₁ : take n (run .list ++ drop n (replicate 32 blankPrint)) ≡ run .list = take-at (run .list) _ n (run-length rate n (drop 1 b)) in
-    let e₂ : (n - 1) * 8 + 2 ≡ z = omega (arith, eqb-true (z % 8) 2 q) in (
-      audio-some n _ (λ k. omega (arith, k))
-          ∙ rw (e₁, e₂, run-back rate n (drop 1 b) r, add-one (run .used)) (sym (ap (take (suc (run .used))) (split-1 b (leb-true 1 (length b) l)))),
-      rw (add-one (z / 8)) (omega (arith, eqb-false flag 0 d)),
+    let e₂ : (n - 1) * 8 + 2 ≡ getD b 0 0 = omega (arith, a .form) in (
+      audio-some n _ (λ k. omega (arith, k)) ∙ rw (e₁, e₂, run-back rate n (drop 1 b) (a .run), add-one (run .used)) (sym (ap (take (suc (run .used))) (split-1 b (a .some)))),
+      rw (add-one (getD b 0 0 / 8)) (omega (arith, a .flagged)),
     ))
-    (λ _. bad)) (λ _. bad)) (λ _. bad))
-    (λ _. bad))
 
 -- ---- all parts
 

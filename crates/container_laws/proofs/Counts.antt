@@ -2,13 +2,13 @@
 use Prim.Native.Nat.{ℕ, zero, suc, _≤_, _<_}
 use mathlib.Core.Path.{_≡_, refl, sym, _∙_}
 use mathlib.Core.List.{List, [], _∷_}
-use mathlib.Core.Bool.{Bool, true, cond, _&&_}
+use mathlib.Core.Bool.{Bool, true, _&&_}
 use mathlib.Core.Logic.{_↔_}
 use native.Mathlib.Omega.{arith}
 use native.Mathlib.Nat.{not-suc-le-zero, le-of-suc-le-suc}
-use lib.Dec.{leb, eqb}
+use lib.Dec.{eqb}
 use lib.ListN.{length, take}
-use borrow.Author.Tests.{leb-true, eqb-true, eq-eqb}
+use borrow.Author.Tests.{eqb-true, eq-eqb}
 use Rattle.laws.specs.Bytes.{Bytes}
 use Rattle.laws.specs.Calls.{over, roomNumber, doneWith}
 use Rattle.laws.specs.Lists.{isOneOf}
@@ -18,7 +18,7 @@ use Rattle.laws.proofs.Tests.{both, below, at-below}
 use Rattle.rates.specs.Rates.{rateListed}
 use Rattle.rates.specs.Mixes.{mixListed}
 use Rattle.rates.specs.Cadence.{cadences, cadence, countOccurs, frames, from}
-use Rattle.rates.proofs.Table.{occurs-is}
+use Rattle.rates.proofs.Table.{listed-below, at-listed, occurs-is}
 use Rattle.container.specs.declared.Print.{Print}
 use Rattle.container.specs.declared.Contents.{Contents}
 use Rattle.container.specs.Contents.{allCarry, sameCount}
@@ -78,17 +78,14 @@ pair-told rate m n =
     && eqb (writeDone (pairOf rate m n) 254 .number) (unlessCounted rate m n 29)
 
 abbrev pairs-told : ℕ → Bool
-pairs-told rate = cond (rateListed rate) (below (λ m. below (λ n. pair-told rate m n) 6) 6) true
+pairs-told rate = below (λ m. below (λ n. pair-told rate m n) 6) 6
 
-all-told : below pairs-told 12 ≡ true
-unfolding below rateListed countOccurs cadence cadences frames from isOneOf mixListed encode frontBytes partBytes idBytes videoBytes audioBytes runBytes printBytes flagByte checkByte sum reading headerNumber partsReading partsJoined middle idPart videoPart audioPart audioOf runOf printPart printAt over sameCount allCarry writeDone writeNumber contentsNumber doneWith roomNumber readable idReadable videoReadable printsReadable printReadable printBlank allZero
+all-told : listed-below pairs-told ≡ true
+unfolding listed-below below rateListed countOccurs cadence cadences frames from isOneOf mixListed encode frontBytes partBytes idBytes videoBytes audioBytes runBytes printBytes flagByte checkByte sum reading headerNumber partsReading partsJoined middle idPart videoPart audioPart audioOf runOf printPart printAt over sameCount allCarry writeDone writeNumber contentsNumber doneWith roomNumber readable idReadable videoReadable printsReadable printReadable printBlank allZero
 all-told = refl
 
 pub each-pair : (rate m n : ℕ) → rateListed rate ≡ true → m < 6 → n < 6 → PairTold rate m n
-unfolding rateListed
 each-pair rate m n e hm hn =
-    let h = leb-true rate 11 (both (leb 2 rate) (leb rate 11) e .1) in
-    let t = at-below pairs-told 12 rate all-told (omega (arith, h)) in
-    let r = at-below (λ m. below (λ n. pair-told rate m n) 6) 6 m (rw e at t) hm in
+    let r = at-below (λ m. below (λ n. pair-told rate m n) 6) 6 m (at-listed pairs-told rate all-told e) hm in
     let q = both _ _ (at-below (λ n. pair-told rate m n) 6 n r hn) in
     record { read = eqb-true _ _ (q .0); written = eqb-true _ _ (q .1) }

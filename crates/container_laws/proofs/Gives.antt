@@ -1,13 +1,13 @@
 -- What an accepted reading gives is readable, and typed as the types make it; and the bytes written are bytes.
-use Prim.Native.Nat.{ℕ, zero, suc, _+_, _-_, _*_, _/_, _%_, _≤_, _<_}
-use mathlib.Core.List.{List, [], _∷_, _++_}
-use mathlib.Core.Path.{_≡_, refl, ap, sym, _∙_}
-use mathlib.Core.Bool.{Bool, true, false, cond, _&&_, false≢true}
+use Prim.Native.Nat.{ℕ, zero, suc, _+_, _-_, _/_, _%_, _≤_}
+use mathlib.Core.List.{List, [], _++_}
+use mathlib.Core.Path.{_≡_, refl, ap, _∙_}
+use mathlib.Core.Bool.{true, false, false≢true}
 use native.Mathlib.Omega.{arith}
 use lib.ListN.{length, getD, take, drop, replicate, length-drop}
 use lib.Seq.{take-at, drop-at, length-take-le}
 use lib.Dec.{leb, eqb}
-use borrow.Author.Tests.{leb-true, le-leb, eqb-true, eqb-false, eq-eqb}
+use borrow.Author.Tests.{le-leb}
 use Rattle.laws.specs.Bytes.{Bytes}
 use Rattle.laws.specs.Calls.{over}
 use Rattle.laws.proofs.Bytes.{bytes-take, bytes-drop}
@@ -18,27 +18,14 @@ use Rattle.container.specs.declared.IdPart.{IdPart}
 use Rattle.container.specs.declared.VideoPart.{VideoPart}
 use Rattle.container.specs.declared.PrintPart.{PrintPart}
 use Rattle.container.specs.declared.AudioPart.{AudioPart}
-use Rattle.container.specs.Contents.{blankPrint, allCarry, sameCount}
-use Rattle.container.specs.Parts.{noVideo, noAudio, idPart, oneField, bothFields, videoPart, printPart, printAt, runOf, audioOf, audioPart}
-use Rattle.container.specs.Reading.{idIn, videoIn, audioIn, middle, reading}
-use Rattle.container.specs.Writing.{allZero, idReadable, videoReadable, printReadable, printBlank, printsReadable, readable}
+use Rattle.container.specs.Contents.{allCarry, sameCount}
+use Rattle.container.specs.Parts.{noVideo, idPart, oneField, bothFields, videoPart, printPart, printAt, runOf, audioPart}
+use Rattle.container.specs.Reading.{idIn, videoIn, middle, reading}
+use Rattle.container.specs.Writing.{idReadable, videoReadable, printReadable, printsReadable, readable}
 use Rattle.container.proofs.Runs.{run-length}
-use Rattle.container.proofs.Parts.{PrintRight, print-right, print-is}
-use Rattle.container_laws.proofs.Back.{Accepted, accepted-is}
-
-zeros-pass : (n k : ℕ) → allZero (drop k (replicate n 0)) ≡ true
-unfolding allZero
-zeros-pass zero zero = refl
-zeros-pass zero (suc k) = refl
-zeros-pass (suc n) zero = zeros-pass n zero
-zeros-pass (suc n) (suc k) = zeros-pass n k
-
-blanks-pass : (rate n k : ℕ) → printsReadable rate 0 (drop k (replicate n blankPrint)) ≡ true
-unfolding printsReadable printBlank allZero
-blanks-pass rate zero zero = refl
-blanks-pass rate zero (suc k) = refl
-blanks-pass rate (suc n) zero = blanks-pass rate n zero
-blanks-pass rate (suc n) (suc k) = blanks-pass rate n k
+use Rattle.container.proofs.Parts.{PrintRight, print-right, print-is, audio-cases, countIn, runIn}
+use Rattle.container_laws.proofs.Back.{accepted-is}
+use Rattle.container_laws.proofs.Padded.{zeros-pass, blanks-pass}
 
 none-counted : sameCount [] ≡ true
 unfolding sameCount allCarry
@@ -104,24 +91,15 @@ abbrev AudioPasses : ℕ → AudioPart → Type 0
 AudioPasses rate g = g .ok ≡ true → AudioRight rate g
 
 audio-passes : (flag rate : ℕ) (b : List ℕ) → Bytes b → AudioPasses rate (audioPart flag rate b)
-unfolding audioPart audioOf
 audio-passes flag rate b s =
-    let P = AudioPasses rate in
-    let bad : P noAudio = λ e. absurd (false≢true e) in
-    let n = getD b 0 0 / 8 + 1 in
-    let run = runOf rate n (drop 1 b) in
-    chosen P (eqb flag 0) _ _ (λ _ _. record { many = refl; prints = blanks-pass rate 32 0; counts = none-counted })
-    (λ _. chosen P (leb 1 (length b)) _ _
-    (λ _. chosen P (eqb (getD b 0 0 % 8) 2) _ _
-    (λ _. chosen P (run .ok) _ _
-    (λ r. chosen P (sameCount (run .list)) _ _
-    (λ c _. record {
+    audio-cases (AudioPasses rate) flag rate b (λ _ _. record { many = refl; prints = blanks-pass rate 32 0; counts = none-counted }) (λ e. absurd (false≢true e))
+    (λ a _.
+    let n = countIn b in
+    record {
       many = le-leb n 32 (omega (arith, s 0));
-      prints = run-passes rate n (drop 1 b) _ (bytes-drop 1 b s) r (blanks-pass rate 32 n);
-      counts = ap sameCount (take-at (run .list) _ n (run-length rate n (drop 1 b))) ∙ c;
+      prints = run-passes rate n (drop 1 b) _ (bytes-drop 1 b s) (a .run) (blanks-pass rate 32 n);
+      counts = ap sameCount (take-at (runIn rate b .list) _ n (run-length rate n (drop 1 b))) ∙ a .counts;
     })
-    (λ _. bad)) (λ _. bad)) (λ _. bad))
-    (λ _. bad))
 
 pub middle-bytes : (s : List ℕ) → Bytes s → Bytes (middle s)
 unfolding middle

@@ -2,21 +2,21 @@
 use Prim.Native.Nat.{ℕ, zero, suc, _-_, _≤_, _<_}
 use mathlib.Core.Path.{_≡_, refl, sym, subst, _∙_}
 use mathlib.Core.List.{List, [], _∷_, map}
-use mathlib.Core.Bool.{Bool, true, false, cond, _&&_, _||_}
+use mathlib.Core.Bool.{Bool, true, false, _&&_, _||_}
 use native.Mathlib.Omega.{arith}
 use lib.Dec.{leb, eqb}
-use lib.ListN.{length, getD, replicate, length-replicate, length-append}
+use lib.ListN.{length, getD, replicate, length-replicate}
 use borrow.Author.Tests.{leb-true, leb-false, eqb-true}
 use Rattle.laws.specs.Bytes.{Bytes}
 use Rattle.laws.specs.Lists.{isOneOf}
 use Rattle.laws.specs.declared.Video.{Video}
 use Rattle.laws.specs.declared.Video.the-variants.{Absent, One, Two}
-use Rattle.laws.proofs.Bytes.{bytes-replicate, bytes-append}
+use Rattle.laws.proofs.Bytes.{bytes-replicate}
 use Rattle.laws.proofs.Tests.{both, chosen, below, at-below}
 use Rattle.rates.specs.Rates.{rateListed, twoFields}
 use Rattle.rates.specs.Cadence.{cadences, cadence, frames, from, countOccurs}
 use Rattle.rates.specs.Mixes.{mixListed}
-use Rattle.rates.proofs.Table.{occurs-is}
+use Rattle.rates.proofs.Table.{listed-below, at-listed, occurs-is}
 use Rattle.container.specs.declared.Print.{Print}
 use Rattle.container.specs.declared.Contents.{Contents}
 use Rattle.container.specs.Contents.{allCarry, sameCount}
@@ -29,6 +29,7 @@ use Rattle.container.proofs.Bytes as bytes
 use Rattle.container.proofs.Outcome.{write-0, write-12}
 use Rattle.container_laws.specs.Typed.{TypedPrint, TypedPrints, TypedVideo, Typed}
 use Rattle.container_laws.specs.Largest.{greatest, mostBytes, videoMost, audioMost, largestAt, fullPrint, fullVideo, fullContents, Largest}
+use Rattle.container_laws.proofs.Padded.{padded-typed}
 use Rattle.container_laws.proofs.Back.{written-again}
 use Rattle.container_laws.proofs.There.{read-as-written}
 use Rattle.container_laws.proofs.Gives.{reading-readable}
@@ -81,32 +82,26 @@ accepted-at-rate s b e =
 -- ---- and each rate has a container of that length
 
 -- one test over the codes: at a listed rate the full contents pass 29, and each part of theirs is at its largest
-abbrev full : ℕ → Contents
-full rate = fullContents rate
-
 abbrev parts-full : ℕ → Bool
 parts-full rate =
     eqb (length (videoBytes (fullVideo rate))) (videoMost rate)
-    && (eqb (length (audioBytes 32 (full rate .prints))) (audioMost rate)
+    && (eqb (length (audioBytes 32 (fullContents rate .prints))) (audioMost rate)
     && (leb (mostBytes rate) 5
-    && readable (full rate)))
+    && readable (fullContents rate)))
 
-all-full : below (λ rate. cond (rateListed rate) (parts-full rate) true) 12 ≡ true
-unfolding below rateListed twoFields cadence cadences frames from isOneOf greatest videoBytes audioBytes runBytes printBytes readable idReadable videoReadable printsReadable printReadable countOccurs mixListed allZero sameCount allCarry
+all-full : listed-below parts-full ≡ true
+unfolding listed-below below rateListed twoFields cadence cadences frames from isOneOf greatest videoBytes audioBytes runBytes printBytes readable idReadable videoReadable printsReadable printReadable countOccurs mixListed allZero sameCount allCarry
 all-full = refl
 
 record Full (rate : ℕ) : Type 0 where
   video : length (videoBytes (fullVideo rate)) ≡ videoMost rate
-  audio : length (audioBytes 32 (full rate .prints)) ≡ audioMost rate
+  audio : length (audioBytes 32 (fullContents rate .prints)) ≡ audioMost rate
   few : mostBytes rate ≤ 5
-  passes : readable (full rate) ≡ true
+  passes : readable (fullContents rate) ≡ true
 
 is-full : (rate : ℕ) → rateListed rate ≡ true → Full rate
-unfolding rateListed
 is-full rate e =
-    let h = leb-true rate 11 (both (leb 2 rate) (leb rate 11) e .1) in
-    let t = at-below (λ r. cond (rateListed r) (parts-full r) true) 12 rate all-full (omega (arith, h)) in
-    let q₁ = both _ _ (rw e at t) in
+    let q₁ = both _ _ (at-listed parts-full rate all-full e) in
     let q₂ = both _ _ (q₁ .1) in
     let q₃ = both _ _ (q₂ .1) in
     record { video = eqb-true _ _ (q₁ .0); audio = eqb-true _ _ (q₂ .0); few = leb-true _ _ (q₃ .0); passes = q₃ .1 }
@@ -117,16 +112,13 @@ prints-typed p t zero = tt
 prints-typed p t (suc n) = (t, prints-typed p t n)
 
 print-typed : (n : ℕ) → n ≤ 5 → TypedPrint (fullPrint n)
-print-typed n h = record {
-  long = length-append (replicate n 255) (replicate (5 - n) 0) ∙ omega (arith, length-replicate {A = ℕ} n 255, length-replicate {A = ℕ} (5 - n) 0);
-  bytes = bytes-append (replicate n 255) (replicate (5 - n) 0) (bytes-replicate n 255 (omega arith)) (bytes-replicate (5 - n) 0 (omega arith));
-}
+print-typed n h = padded-typed 31 5 n (replicate n 255) (length-replicate n 255) h (bytes-replicate n 255 (omega arith))
 
 video-typed : (rate : ℕ) → TypedVideo (fullVideo rate)
 unfolding TypedVideo
 video-typed rate = chosen TypedVideo (twoFields rate) _ _ (λ _. (omega arith, omega arith)) (λ _. omega arith)
 
-full-typed : (rate : ℕ) → mostBytes rate ≤ 5 → Typed (full rate)
+full-typed : (rate : ℕ) → mostBytes rate ≤ 5 → Typed (fullContents rate)
 full-typed rate h = record {
   counter = omega arith;
   id-long = refl;
@@ -136,15 +128,15 @@ full-typed rate h = record {
   prints = prints-typed (fullPrint (mostBytes rate)) (print-typed (mostBytes rate) h) 32;
 }
 
-full-length : (rate : ℕ) → Full rate → length (encode (full rate)) ≡ largestAt rate
+full-length : (rate : ℕ) → Full rate → length (encode (fullContents rate)) ≡ largestAt rate
 unfolding largestAt idBytes
-full-length rate f = sized (full rate) (full-typed rate (f .few)) (f .passes) .whole ∙ rw (f .video, f .audio)
+full-length rate f = sized (fullContents rate) (full-typed rate (f .few)) (f .passes) .whole ∙ rw (f .video, f .audio)
 
 some-bytes : (rate : ℕ) → 1 ≤ largestAt rate
 unfolding largestAt
 some-bytes rate = omega arith
 
-pub largest : (rate : ℕ) → rateListed rate ≡ true → Largest rate (full rate)
+pub largest : (rate : ℕ) → rateListed rate ≡ true → Largest rate (fullContents rate)
 unfolding idBytes
 largest rate e =
     let f = is-full rate e in
@@ -155,9 +147,9 @@ largest rate e =
       id = refl;
       video = f .video;
       audio = f .audio;
-      written = sym (rw length-replicate at (write-0 (full rate) (replicate (largestAt rate) 0) (f .passes) (largestAt rate) (sym l) (rw length-replicate (omega arith)) .0));
-      short = sym (rw length-replicate at (write-12 (full rate) (replicate (largestAt rate - 1) 0) (f .passes) (largestAt rate) (sym l) (rw length-replicate (omega (arith, some-bytes rate))) .0));
-      read = read-as-written (full rate) t (f .passes);
+      written = sym (rw length-replicate at (write-0 (fullContents rate) (replicate (largestAt rate) 0) (f .passes) (largestAt rate) (sym l) (rw length-replicate (omega arith)) .0));
+      short = sym (rw length-replicate at (write-12 (fullContents rate) (replicate (largestAt rate - 1) 0) (f .passes) (largestAt rate) (sym l) (rw length-replicate (omega (arith, some-bytes rate))) .0));
+      read = read-as-written (fullContents rate) t (f .passes);
     }
 
 -- from code 2 on: 23.98, 24, 47.95, 25, 29.97, 30, 48, 50, 59.94, 60

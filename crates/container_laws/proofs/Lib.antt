@@ -1,4 +1,5 @@
 pub mod Container
+pub mod Padded
 pub mod Back
 pub mod There
 pub mod Gives

@@ -19,10 +19,10 @@ use Rattle.container.specs.declared.IdPart.{IdPart}
 use Rattle.container.specs.declared.AudioPart.{AudioPart}
 use Rattle.container.specs.declared.Contents.{Contents}
 use Rattle.container.specs.Bytes.{idBytes, videoBytes, printBytes, runBytes, audioBytes, partBytes, flagByte, frontBytes, checkByte, encode}
-use Rattle.container.specs.Contents.{sameCount}
-use Rattle.container.specs.Parts.{idPart, runOf, audioOf, audioPart}
+use Rattle.container.specs.Parts.{idPart, audioPart}
 use Rattle.container.specs.Reading.{idIn, videoIn, middle, reading}
 use Rattle.container.specs.Writing.{printReadable, printsReadable, readable}
+use Rattle.container.proofs.Parts.{audio-cases}
 use Rattle.container.proofs.Runs.{run-length}
 use Rattle.container.proofs.Readable.{passes, print-fits, readable-fits}
 use Rattle.container.proofs.Bytes.{Shaped, encode-length, sized, at-most-254}
@@ -43,18 +43,9 @@ id-20 flag b =
     (λ _. refl))
 
 prints-32 : (flag rate : ℕ) (b : List ℕ) → Bytes b → length (audioPart flag rate b .prints) ≡ 32
-unfolding audioPart audioOf
 prints-32 flag rate b s =
-    let P : AudioPart → Type 0 = λ p. length (p .prints) ≡ 32 in
-    let n = getD b 0 0 / 8 + 1 in
-    chosen P (eqb flag 0) _ _ (λ _. refl)
-    (λ _. chosen P (leb 1 (length b)) _ _
-    (λ _. chosen P (eqb (getD b 0 0 % 8) 2) _ _
-    (λ _. chosen P (runOf rate n (drop 1 b) .ok) _ _
-    (λ _. chosen P (sameCount (runOf rate n (drop 1 b) .list)) _ _
+    audio-cases (λ (p : AudioPart). length (p .prints) ≡ 32) flag rate b (λ _. refl) refl
     (λ _. simp (length-append, length-drop, length-replicate, run-length) (omega (arith, s 0)))
-    (λ _. refl)) (λ _. refl)) (λ _. refl))
-    (λ _. refl))
 
 pub reading-shaped : (s : List ℕ) → Bytes s → reading s .number ≡ 0 → Shaped (reading s .contents)
 reading-shaped s small e =

@@ -2,18 +2,17 @@
 use Prim.Native.Nat.{ℕ, zero, suc, _+_, _-_, _*_, _/_, _%_, _≤_, _<_}
 use mathlib.Core.List.{List, [], _∷_, _++_, append-assoc, append-nil}
 use mathlib.Core.Path.{_≡_, refl, ap, sym, _∙_}
-use mathlib.Core.Bool.{Bool, true, false, cond, _&&_, false≢true}
+use mathlib.Core.Bool.{Bool, true, false, cond}
 use native.Mathlib.Omega.{arith}
 use native.Mathlib.Numerals.{add-one}
 use lib.ListN.{length, take, drop, replicate, length-append, take-append-drop}
 use lib.Seq.{length-take-le, take-at, drop-at}
 use lib.Dec.{leb, eqb}
-use borrow.Author.Tests.{leb-true, eqb-true, le-leb, eq-eqb}
+use borrow.Author.Tests.{eqb-true, le-leb, eq-eqb}
 use Rattle.laws.specs.Calls.{over}
 use Rattle.laws.specs.Sums.{sum}
 use Rattle.laws.proofs.Tests.{both}
 use Rattle.laws.proofs.Sums.{sum-append}
-use Rattle.rates.specs.Rates.{twoFields}
 use Rattle.rates.specs.Mixes.{mixListed}
 use Rattle.rates.specs.Cadence.{countOccurs}
 use Rattle.laws.specs.declared.Video.{Video}

@@ -6,12 +6,12 @@ use mathlib.Core.List.{List, [], _∷_, _++_, map, append-assoc}
 use native.Mathlib.Omega.{arith}
 use native.Mathlib.Nat.{not-suc-le-zero}
 use lib.Dec.{leb, eqb}
-use lib.ListN.{length, getD, take, drop, replicate, length-append, length-drop, length-replicate, length-map}
-use lib.Seq.{take-append-seam, drop-at, getD-at, getD-set-same}
+use lib.ListN.{length, getD, take, drop, replicate, length-append, length-drop, length-map}
+use lib.Seq.{take-append-seam, getD-at, getD-set-same}
 use borrow.Author.Tests.{eqb-true, eqb-false, eq-eqb, ne-eqb, le-leb}
 use Rattle.laws.specs.Bytes.{Bytes}
 use Rattle.laws.specs.Calls.{over, outWith}
-use Rattle.laws.proofs.Bytes.{bytes-nil, bytes-cons, bytes-replicate, bytes-append}
+use Rattle.laws.proofs.Bytes.{bytes-nil, bytes-cons, bytes-append}
 use Rattle.laws.proofs.Tests.{both, chosen}
 use Rattle.rates.specs.Mixes.{mixListed}
 use Rattle.rates.specs.Cadence.{countOccurs}
@@ -29,6 +29,7 @@ use Rattle.container.specs.Reading.{reading}
 use Rattle.container.specs.Writing.{allZero, printReadable, printBlank, printsReadable, readable, writeNumber, writeOut}
 use Rattle.container.proofs.Readable.{passes, print-fits}
 use Rattle.container_laws.specs.Typed.{TypedPrint, TypedPrints, Typed}
+use Rattle.container_laws.proofs.Padded.{padded-zeros, padded-typed}
 use Rattle.container_laws.proofs.There.{read-as-written}
 use Rattle.demands.specs.Calls.{Setup, Call, line, sound, instant, pack, video-restart, audio-restart, Answer, Event}
 use Rattle.session.specs.Packing.{readyNumber}
@@ -150,11 +151,6 @@ claiming-claims n u cs id out z = rw (eq-eqb (paper u (transcript (claiming n) u
 
 -- ---- A constant audio fingerprint
 
-all-zero : (n : ℕ) → allZero (replicate n 0) ≡ true
-unfolding allZero
-all-zero zero = refl
-all-zero (suc n) = all-zero n
-
 module _ (xs : ℕ → ℕ) where
   firsts-at : (n i : ℕ) (t : List ℕ) → i < n → getD (firsts xs n ++ t) i 0 ≡ xs i
   unfolding firsts
@@ -178,7 +174,7 @@ module _ (xs : ℕ → ℕ) where
       let a = both (leb (p .id) 31) _ e in
       let b = both (mixListed (p .mix)) _ (a .1) in
       let c = both (countOccurs rate (p .size)) _ (b .1) in
-      let z = ap allZero (drop-at (firsts xs (p .size)) (replicate (5 - p .size) 0) (p .size) (length-firsts xs (p .size))) ∙ all-zero (5 - p .size) in
+      let z = padded-zeros (p .id) (p .mix) (p .size) (firsts xs (p .size)) (length-firsts xs (p .size)) in
       rw (a .0, b .0, c .0, z) refl
 
   blank-size : (p : Print) → printBlank p ≡ true → p .size ≡ 0
@@ -223,10 +219,7 @@ module _ (xs : ℕ → ℕ) where
 
     print-typed : (p : Print) → p .size ≤ 5 → TypedPrint (printAs xs p)
     unfolding printAs
-    print-typed p l = record {
-      long = length-append (firsts xs (p .size)) (replicate (5 - p .size) 0) ∙ omega (arith, length-firsts xs (p .size), length-replicate {A = ℕ} (5 - p .size) 0);
-      bytes = bytes-append (firsts xs (p .size)) (replicate (5 - p .size) 0) (firsts-bytes (p .size)) (bytes-replicate (5 - p .size) 0 (omega arith));
-    }
+    print-typed p l = padded-typed (p .id) (p .mix) (p .size) (firsts xs (p .size)) (length-firsts xs (p .size)) l (firsts-bytes (p .size))
 
     prints-typed : (rate n : ℕ) (ps : List Print) → printsReadable rate n ps ≡ true → TypedPrints (map (printAs xs) ps)
     unfolding printsReadable TypedPrints

@@ -1,13 +1,12 @@
 -- What document 01 says that a container holds can be written and read: it passes 29, and its values are as the types make them.
 use Prim.Native.Nat.{ℕ, zero, suc, _+_, _-_, _*_, _%_, _^_, _≤_, _<_}
-use mathlib.Core.Path.{_≡_, refl, ap, _∙_}
+use mathlib.Core.Path.{_≡_, refl, ap}
 use mathlib.Core.Bool.{Bool, true, false, cond, _&&_}
 use mathlib.Core.List.{List, [], _∷_, _++_}
 use native.Mathlib.Omega.{arith}
 use native.Mathlib.Nat.{mod-lt, pow-suc, mul-le-mul-left}
 use lib.Dec.{ltb, eqb}
 use lib.ListN.{length, take, drop, replicate, length-append, length-drop, length-replicate}
-use lib.Seq.{drop-at}
 use borrow.Author.Tests.{le-leb, eq-eqb, eqb-true}
 use Rattle.laws.specs.Bytes.{Bytes}
 use Rattle.laws.proofs.Bytes.{bytes-nil, bytes-cons, bytes-replicate, bytes-append}
@@ -35,10 +34,11 @@ use Rattle.fingerprint.specs.History.{upTo, bitAt, bitsFrom, fromBits, bytesFro
 use Rattle.container.specs.declared.Print as container
 use Rattle.container.specs.Contents.{blankPrint, allCarry, sameCount}
 use Rattle.container.specs.Sizes.{Sized}
-use Rattle.container.specs.Writing.{allZero, idReadable, videoReadable, printReadable, printBlank, printsReadable, readable, contentsNumber}
+use Rattle.container.specs.Writing.{allZero, idReadable, videoReadable, printReadable, printsReadable, readable, contentsNumber}
 use Rattle.container.proofs.Readable.{readable-fits}
 use Rattle.container.proofs.Bytes.{Shaped, sized}
 use Rattle.container_laws.specs.Typed.{TypedPrint, TypedPrints, TypedVideo, Typed}
+use Rattle.container_laws.proofs.Padded.{blanks-pass, padded, padded-zeros, padded-typed}
 use Rattle.session.specs.Fingerprints.{allListed, withBlanks}
 use Rattle.session.specs.Packing.{idOf}
 use Rattle.demands.specs.Calls.{Setup, Call, line, sound, instant, pack, video-restart, audio-restart, Event}
@@ -173,30 +173,16 @@ module _ (d : ℕ) (h : List ℕ) (k : ℕ) where
       bytes-append (bytesFrom d h k n) (fromBits (bitsFrom d h (k + 8 * n)) 8 ∷ []) (from-bytes n)
       (bytes-cons _ [] (byte-small (bitsFrom d h (k + 8 * n)) (λ i. bit-small (upTo h ((k + 8 * n + i) * d))) 8) bytes-nil)
 
-all-zero : (n : ℕ) → allZero (replicate n 0) ≡ true
-unfolding allZero
-all-zero zero = refl
-all-zero (suc n) = all-zero n
-
 module _ (rate d g n : ℕ) (h : ℕ → ℕ → List ℕ) (occurs : countOccurs rate n ≡ true) where
-  five : n ≤ 5
-  five = occurs-1-to-5 rate n occurs .1
-
   abbrev print : ℕ → ℕ → container.Print
-  print k m = record { id = k; mix = m; size = n; bytes = bytesFrom d (h m k) g n ++ replicate (5 - n) 0 }
+  print k m = padded k m n (bytesFrom d (h m k) g n)
 
   print-readable : (k m : ℕ) → k < 32 → mixListed m ≡ true → printReadable rate (print k m) ≡ true
   unfolding printReadable
-  print-readable k m l e =
-      let z : allZero (drop n (bytesFrom d (h m k) g n ++ replicate (5 - n) 0)) ≡ true =
-      ap allZero (drop-at (bytesFrom d (h m k) g n) (replicate (5 - n) 0) n (from-length d (h m k) g n)) ∙ all-zero (5 - n) in
-      rw (le-leb k 31 (omega arith), e, occurs, z) refl
+  print-readable k m l e = rw (le-leb k 31 (omega arith), e, occurs, padded-zeros k m n (bytesFrom d (h m k) g n) (from-length d (h m k) g n)) refl
 
   print-typed : (k m : ℕ) → TypedPrint (print k m)
-  print-typed k m = record {
-    long = length-append (bytesFrom d (h m k) g n) (replicate (5 - n) 0) ∙ omega (arith, five, from-length d (h m k) g n, length-replicate {A = ℕ} (5 - n) 0);
-    bytes = bytes-append (bytesFrom d (h m k) g n) (replicate (5 - n) 0) (from-bytes d (h m k) g n) (bytes-replicate (5 - n) 0 (omega arith));
-  }
+  print-typed k m = padded-typed k m n (bytesFrom d (h m k) g n) (from-length d (h m k) g n) (occurs-1-to-5 rate n occurs .1) (from-bytes d (h m k) g n)
 
   said-readable : (k : ℕ) (ms : List ℕ) (ps : List container.Print) → k + length ms ≤ 32 → allListed ms ≡ true → printsReadable rate 0 ps ≡ true
       → printsReadable rate (length ms) (printsSaid d g n h k ms ++ ps) ≡ true
@@ -228,13 +214,6 @@ module _ (rate d g n : ℕ) (h : ℕ → ℕ → List ℕ) (occurs : countOccurs
   said-length k (m ∷ ms) = ap suc (said-length (suc k) ms)
 
 -- the places after them
-blank-readable : (rate j m : ℕ) → printsReadable rate 0 (drop j (replicate m blankPrint)) ≡ true
-unfolding printsReadable printBlank allZero
-blank-readable rate zero zero = refl
-blank-readable rate zero (suc m) = blank-readable rate zero m
-blank-readable rate (suc j) zero = refl
-blank-readable rate (suc j) (suc m) = blank-readable rate j m
-
 blank-typed : (j m : ℕ) → TypedPrints (drop j (replicate m blankPrint))
 unfolding TypedPrints
 blank-typed zero zero = tt
@@ -269,8 +248,8 @@ module _ (u : Setup) (l : Listed u) (es : List Event) where
 
   spoken-readable : (t : Bool) → printsReadable (u .rate) (cond t (length (u .mixes)) 0) (withBlanks (spoken t)) ≡ true
   unfolding withBlanks audioSaid
-  spoken-readable true = said-readable (u .rate) _ _ due _ due-occurs 0 (u .mixes) _ (omega (arith, l .many)) (l .mixes) (blank-readable (u .rate) (length (spoken true)) 32)
-  spoken-readable false = blank-readable (u .rate) 0 32
+  spoken-readable true = said-readable (u .rate) _ _ due _ due-occurs 0 (u .mixes) _ (omega (arith, l .many)) (l .mixes) (blanks-pass (u .rate) 32 (length (spoken true)))
+  spoken-readable false = blanks-pass (u .rate) 32 0
 
   spoken-counts : (t : Bool) → sameCount (take (cond t (length (u .mixes)) 0) (withBlanks (spoken t))) ≡ true
   unfolding withBlanks audioSaid sameCount allCarry

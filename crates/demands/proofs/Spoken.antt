@@ -16,9 +16,10 @@ use Rattle.container.specs.declared.IdPart.{IdPart}
 use Rattle.container.specs.declared.VideoPart.{VideoPart}
 use Rattle.container.specs.declared.AudioPart.{AudioPart}
 use Rattle.container.specs.declared.Reading.{Reading}
-use Rattle.container.specs.Contents.{blankPrint, sameCount}
-use Rattle.container.specs.Parts.{noPrint, printAt, printPart, runOf, audioOf, audioPart}
+use Rattle.container.specs.Contents.{blankPrint}
+use Rattle.container.specs.Parts.{noPrint, printAt, printPart, runOf, audioPart}
 use Rattle.container.specs.Reading.{headerNumber, middle, partsJoined, partsReading, reading}
+use Rattle.container.proofs.Parts.{countIn, audio-cases}
 
 -- what is refused has it, and what passes the test has it
 guarded : {A : Type 0} (P : A → Type 0) (t : Bool) {x y : A} → P y → (t ≡ true → P x) → P (cond t x y)
@@ -54,14 +55,7 @@ abbrev InAudio : AudioPart → Type 0
 InAudio a = SomeByte (a .count) (a .prints)
 
 in-audio : (flag rate : ℕ) (b : List ℕ) → InAudio (audioPart flag rate b)
-unfolding audioPart audioOf
-in-audio flag rate b =
-    let n : ℕ = getD b 0 0 / 8 + 1 in
-    chosen InAudio (eqb flag 0) _ _ (λ _. none)
-    (λ _. guarded InAudio (leb 1 (length b)) none
-    (λ _. guarded InAudio (eqb (getD b 0 0 % 8) 2) none
-    (λ _. guarded InAudio (runOf rate n (drop 1 b) .ok) none
-    (λ r. guarded InAudio (sameCount (runOf rate n (drop 1 b) .list)) none (λ _. in-run rate n (drop 1 b) _ r)))))
+in-audio flag rate b = audio-cases InAudio flag rate b (λ _. none) none (λ a. in-run rate (countIn b) (drop 1 b) _ (a .run))
 
 abbrev InReading : Reading → Type 0
 InReading r = SomeByte (r .contents .count) (r .contents .prints)

@@ -126,6 +126,20 @@ place-after code n h = go (decLt (n % m + 1) m)
         let e : n % m + 1 ≡ m = omega arith in
         rw (le-ltb (n % m + 1) m (omega arith)) (sym (mod-self m) ∙ ap (λ (k : ℕ). k % m) (sym e) ∙ mod-add-mod n m 1)
 
+-- ---- the rates that are listed
+
+pub at-most-11 : (code : ℕ) → rateListed code ≡ true → code ≤ 11
+unfolding rateListed
+at-most-11 code e = leb-true code 11 (both (leb 2 code) (leb code 11) e .1)
+
+-- whether p holds of each of them, computed once
+unfoldable pub listed-below : (ℕ → Bool) → Bool
+listed-below p = below (λ code. cond (rateListed code) (p code) true) 12
+
+pub at-listed : (p : ℕ → Bool) (code : ℕ) → listed-below p ≡ true → rateListed code ≡ true → p code ≡ true
+unfolding listed-below
+at-listed p code t e = rw e at (at-below (λ c. cond (rateListed c) (p c) true) 12 code t (omega (arith, at-most-11 code e)))
+
 -- ---- which counts occur
 
 pub occurs-is : (code count : ℕ) → (countOccurs code count ≡ true) ↔ StandsIn count (cadence code)
