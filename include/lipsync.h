@@ -8,7 +8,7 @@
  * `in` and `out` may be null where their length or room is 0. `written` is never null: a call with a null `written` is an error that no call checks.
  * The bytes read, the buffer written and `written` do not overlap. Calls keep nothing, so they may run at the same time.
  *
- * The four calls are proved to answer as document 01 says. The inline functions of this header are plain C and only tested.
+ * The four calls are proved to answer as document 01 says, with request A2 of 02. The inline functions of this header are plain C and only tested.
  */
 #ifndef LIPSYNC_H
 #define LIPSYNC_H
@@ -25,9 +25,9 @@ extern "C" {
  * and a new PATCH changes neither. While MAJOR is 0 a new MINOR may do what a new MAJOR may: so the shared library's name has both, liblipsync.so.MAJOR.MINOR.
  */
 #define LIPSYNC_VERSION_MAJOR 0
-#define LIPSYNC_VERSION_MINOR 1
+#define LIPSYNC_VERSION_MINOR 2
 #define LIPSYNC_VERSION_PATCH 0
-#define LIPSYNC_VERSION "0.1.0"
+#define LIPSYNC_VERSION "0.2.0"
 
 /* What a call returns. lipsync_meaning() has the words. */
 enum {
@@ -44,7 +44,7 @@ enum {
     LIPSYNC_REFUSED_RATE = 24,
     LIPSYNC_REFUSED_ID = 25,
     LIPSYNC_REFUSED_VIDEO = 26,
-    LIPSYNC_REFUSED_AUDIO = 27,
+    LIPSYNC_REFUSED_AUDIO = 27,         /* also fingerprints of unequal counts, or of one that the rate's cadence does not have */
     LIPSYNC_REFUSED_LEFT_OVER = 28,
 
     LIPSYNC_REFUSED_WORD = 30,          /* a packet's: */

@@ -82,10 +82,10 @@ video-passes flag rate b =
     (λ h₁. chosen P (leb (getD b 2 0) 240) _ _ (λ h₂ _. rw (h₁, h₂, two)) (λ _. bad)) (λ _. bad)) (λ _. bad)) (λ _. bad)) (λ _. bad)))
     (λ _. bad))
 
-pub record AudioRight (rate : ℕ) (g : AudioPart) : Type 0 where
-  pub many : leb (g .count) 32 ≡ true
-  pub prints : printsReadable rate (g .count) (g .prints) ≡ true
-  pub counts : sameCount (take (g .count) (g .prints)) ≡ true
+record AudioRight (rate : ℕ) (g : AudioPart) : Type 0 where
+  many : leb (g .count) 32 ≡ true
+  prints : printsReadable rate (g .count) (g .prints) ≡ true
+  counts : sameCount (take (g .count) (g .prints)) ≡ true
 
 abbrev AudioPasses : ℕ → AudioPart → Type 0
 AudioPasses rate g = g .ok ≡ true → AudioRight rate g

@@ -152,10 +152,10 @@ occurs-1-to-5 code count e =
     subst (λ (n : ℕ). (1 ≤ n) × (n ≤ 5)) (s .there) (due-1-to-5 code (s .place) (s .within))
 
 -- each row's fewest and most, as the code has them
-abbrev pub fewest : List ℕ
+abbrev fewest : List ℕ
 fewest = 1 ∷ 1 ∷ 4 ∷ 5 ∷ 2 ∷ 4 ∷ 3 ∷ 4 ∷ 2 ∷ 2 ∷ 1 ∷ 2 ∷ []
 
-abbrev pub most : List ℕ
+abbrev most : List ℕ
 most = 0 ∷ 0 ∷ 5 ∷ 5 ∷ 3 ∷ 5 ∷ 4 ∷ 4 ∷ 3 ∷ 3 ∷ 2 ∷ 2 ∷ []
 
 abbrev between : ℕ → ℕ → Bool
