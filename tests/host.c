@@ -1,6 +1,6 @@
 /*
- * What the host's calls answer, against document 01: its figures, each refusal, short buffers between guard bytes, and damaged containers and packets from a
- * fixed seed. What is expected is worked out here from 01's rules, never taken from the library, and said in the header's names, so that a wrong constant is found.
+ * What the host's calls answer, against document 01 with 02's A2: its figures, each refusal, short buffers between guard bytes, and damaged containers and packets from a
+ * fixed seed. What is expected is worked out here from these rules, never taken from the library, and said in the header's names, so that a wrong constant is found.
  * Prints the number of checks; the first that fails ends it. With the word `meanings` it only prints what each number means.
  */
 #include "lipsync.h"
