@@ -390,7 +390,7 @@ static void byte_counts(void) {
             n += 2 + size;
         }
         close_up(s, ++n);
-        int right = (last == counts[rate][0] || last == counts[rate][1]) && (count == 1 || other == last);
+        int right = occurs(rate, last) && (count == 1 || other == last);
         CHECK(judge_container(s, n, flat) == (right ? LIPSYNC_OK : LIPSYNC_REFUSED_AUDIO));
         try_container(s, n, MOST);
         try_wrap(s, n, MOST);

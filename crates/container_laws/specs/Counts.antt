@@ -1,4 +1,4 @@
--- What a container's counts are, fingerprint by fingerprint and without a test (02, A2).
+-- What a container's counts are, fingerprint by fingerprint and without a test; and pairs of counts, for one computed test (02, A2).
 use Prim.Native.Nat.{ℕ, _<_}
 use mathlib.Core.Path.{_≡_}
 use mathlib.Core.List.{List, [], _∷_}
@@ -29,7 +29,9 @@ pub record Counted (c : Contents) : Type 0 where
   -- "and that count occurs in the cadence of the container's rate"
   pub occurs : (k : ℕ) → k < c .count → StandsIn (countOf (c .prints) k) (cadence (c .rate))
 
--- ---- for the tests: the counts of each rate's cadence, transcribed once more from Table 13, by the rate code
+-- ---- pairs of counts
+
+-- the counts of each rate's cadence, by the rate code, transcribed once more from Table 13
 
 abbrev pub counts : List (List ℕ)
 counts =
