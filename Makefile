@@ -37,4 +37,4 @@ fuzz: ## card beside the second program on N (100) new random feeds of each kind
 	@tools/need python3 "the comparison"
 	rt check card inspect
 	cargo build --quiet --release --offline --manifest-path second/Cargo.toml --target-dir target/second
-	tools/compare target/bin/card --inspect target/bin/inspect --random $(N)
+	tools/compare "$$(tools/runnable target/bin/card)" --inspect "$$(tools/runnable target/bin/inspect)" --random $(N)

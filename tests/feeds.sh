@@ -5,7 +5,7 @@
 #   cargo build --release --offline --manifest-path second/Cargo.toml --target-dir target/second
 set -euo pipefail
 cd "$(dirname "$0")/.."
-card=target/bin/card
+card=$(tools/runnable target/bin/card)
 second=${1:-target/second/release/second}
 folder=$(mktemp -d)
 trap 'rm -rf "$folder"' EXIT
