@@ -14,7 +14,7 @@ use lib.Ieee.{Float}
 use borrow.Author.Tests.{eq-eqb, leb-false}
 use Rattle.rates.specs.Rates.{intervalOf}
 use Rattle.sound.specs.Mix.{signed, signedAt, instantSamples, weights, mixed, pseudoAbsolute, instantBytes, instantValue}
-use Rattle.sound.proofs.Whole.{by-order}
+use Rattle.laws.proofs.Whole.{by-order}
 use Rattle.sound.proofs.Rounding.{signed-low, signed-high}
 use Rattle.floats.specs.declared.Instant.{Instant}
 use Rattle.floats.specs.declared.Instant.the-variants as kinds

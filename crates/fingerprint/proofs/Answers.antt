@@ -8,9 +8,8 @@ use native.Mathlib.Omega.{arith}
 use lib.Dec.{leb, ltb}
 use lib.ListN.{length, getD, take, replicate, length-append, List·getD-append}
 use lib.Seq.{take-suc, getD-take, length-take-le}
-use borrow.Author.Tests.{le-leb, lt-leb, lt-ltb, le-ltb}
 use Rattle.sound.specs.Exact.{exactEnvelope, exactMean, Near}
-use Rattle.sound.proofs.Whole.{by-order}
+use Rattle.laws.proofs.Tests.{same-test}
 use Rattle.sound.proofs.Exact.{envelope-near, mean-near, bit-one, bit-zero}
 use Rattle.floats.specs.declared.Instant.{Instant}
 use Rattle.fingerprint.specs.declared.Fingerprint.{Fingerprint}
@@ -24,10 +23,7 @@ use Rattle.fingerprint.proofs.Taking.{can-take-room}
 
 -- n bits above 256, and with those that have left the bits kept above 256 and these
 above : (taken n kept : ℕ) → taken + n ≡ kept → ltb 256 n ≡ ltb (256 + taken) kept
-above taken n kept e =
-    by-order 256 n
-    (λ l. lt-ltb 256 n l ∙ sym (lt-ltb (256 + taken) kept (omega arith)))
-    (λ l. le-ltb 256 n l ∙ sym (le-ltb (256 + taken) kept (omega arith)))
+above taken n kept e = same-test 257 n (suc (256 + taken)) kept (λ l. omega arith) (λ l. omega arith)
 
 module _ (mix d : ℕ) (h : List ℕ) (taken : ℕ) (f : Fingerprint) (H : Holds mix d h taken f) where
   pub sound-paper : (block : List ℕ) → soundNumber d f (length block) ≡ soundAnswer mix d h taken block
@@ -50,9 +46,7 @@ module _ (mix d : ℕ) (h : List ℕ) (taken : ℕ) (f : Fingerprint) (H : Holds
   unfolding holdsOf heldAnswer
   holds-paper n =
       let e = holds-kept mix d h taken f H in
-      by-order (f .held) (8 * n)
-      (λ l. lt-leb (8 * n) (f .held) l ∙ sym (lt-leb (taken + 8 * n) (keptBits d h) (omega arith)))
-      (λ l. le-leb (8 * n) (f .held) l ∙ sym (le-leb (taken + 8 * n) (keptBits d h) (omega arith)))
+      same-test (8 * n) (f .held) (taken + 8 * n) (keptBits d h) (λ l. omega arith) (λ l. omega arith)
 
   pub can-take-paper : (n : ℕ) → canTake f n ≡ leaveAnswer d h taken n
   unfolding canTake leaveAnswer

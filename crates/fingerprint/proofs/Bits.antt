@@ -12,7 +12,7 @@ use lib.Seq.{getD-set-same, getD-set-other, getD-drop, set-out, ext-getD}
 use lib.Bits.{bitOr, or-lt, or-shr, or-mod, or-zero-r}
 use lib.Pow.{pow-pos, pow-lt, pow-add, mod-pow-add}
 use Rattle.laws.proofs.Lists.{getD-zeros, getD-padded}
-use Rattle.sound.proofs.Whole.{by-order}
+use Rattle.laws.proofs.Whole.{by-order}
 use Rattle.fingerprint.specs.State.{withBit, shifted}
 use Rattle.fingerprint.specs.History.{fromBits, bitIn}
 

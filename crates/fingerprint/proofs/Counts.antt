@@ -8,20 +8,17 @@ use native.Mathlib.Omega.{arith}
 use native.Mathlib.Decide.{ℕ-discrete}
 use lib.Dec.{leb, ltb, eqb}
 use lib.ListN.{length}
-use borrow.Author.Tests.{le-leb, lt-leb, lt-ltb, le-ltb, ltb-false, eq-eqb, ne-eqb}
-use Rattle.laws.proofs.Tests.{past}
+use borrow.Author.Tests.{lt-ltb, le-ltb, ltb-false, eq-eqb, ne-eqb}
+use Rattle.laws.proofs.Tests.{past, same-test}
 use Rattle.sound.specs.Mix.{weights, instantBytes}
-use Rattle.sound.proofs.Whole.{by-order}
+use Rattle.laws.proofs.Whole.{by-order}
 use Rattle.fingerprint.specs.declared.Fingerprint.{Fingerprint}
 use Rattle.fingerprint.specs.History.{keptAmong}
 use Rattle.fingerprint.specs.State.{after, valuesAt, instants, valuesOf, heardOf, wholeInstants, newBits, storeNumber, soundNumber}
 
 -- n whole bytes among h bits
 pub whole-bytes : (n h : ℕ) → leb n (h / 8) ≡ leb (8 * n) h
-whole-bytes n h =
-    by-order (h / 8) n
-    (λ l. lt-leb n (h / 8) l ∙ sym (lt-leb (8 * n) h (omega arith)))
-    (λ l. le-leb n (h / 8) l ∙ sym (le-leb (8 * n) h (omega arith)))
+whole-bytes n h = same-test n (h / 8) (8 * n) h (λ l. omega arith) (λ l. omega arith)
 
 module _ (d : ℕ) where
   pub bits-none : (w n : ℕ) → n ≤ w → newBits d w n ≡ 0

@@ -12,7 +12,7 @@ use lib.ListN.{length, getD, drop, length-append}
 use borrow.Author.Tests.{eq-eqb, ne-eqb, lt-ltb, eqb-true}
 use Rattle.laws.proofs.Bytes.{bytes-replicate}
 use Rattle.sound.specs.Filter.{filterNext, filtered, envelopeAfter, meanAfter, bitOf}
-use Rattle.sound.proofs.Whole.{by-order}
+use Rattle.laws.proofs.Whole.{by-order}
 use Rattle.floats.specs.declared.Instant.{Instant}
 use Rattle.floats.specs.Instants.{refusedBy, floatValue}
 use Rattle.fingerprint.specs.declared.Fingerprint.{Fingerprint}

@@ -7,10 +7,11 @@
 --     at-top, at-bottom    the sample of an x that is 1 or more, -1 or less
 use mathlib.Core.Path.{_≡_, refl, sym, ap, _∙_, subst}
 use Prim.Native.Nat.{ℕ, zero, suc, _+_, _-_, _*_, _/_, _%_, _^_, _≤_, _<_, min}
-use native.Mathlib.Nat.{le-trans, le-of-eq, lt-of-lt-of-le, lt-of-not-le, not-le-of-lt, lt-irrefl, mul-comm, mul-assoc, mul-left-comm, mul-right-comm, mul-one, one-mul, zero-mul, mul-pos, mul-lt-mul-of-pos-right, lt-of-mul-lt-mul-right, mul-le-mul-right, div-one, mul-div-cancel, div-lt-iff-lt-mul, le-div-iff-mul-le, div-mul-le-self}
+use native.Mathlib.Nat.{le-trans, le-of-eq, lt-of-lt-of-le, lt-of-not-le, not-le-of-lt, mul-comm, mul-assoc, mul-left-comm, mul-right-comm, mul-one, one-mul, zero-mul, mul-pos, mul-lt-mul-of-pos-right, lt-of-mul-lt-mul-right, mul-le-mul-right, div-one, mul-div-cancel, div-lt-iff-lt-mul, le-div-iff-mul-le, div-mul-le-self}
 use native.Mathlib.Omega.{arith}
 use mathlib.Core.Bool.{Bool, true, false, not, _&&_, _||_, true≢false}
 use lib.Dec.{T, ltb, leb, eqb, ltb→lt, lt→ltb, nltb→le, leb→le, eqb→eq, T-not, lit<, lit≤}
+use borrow.Author.Tests.{le-ltb}
 use lib.Pow.{pow-add, pow-pos, pow-lt}
 use lib.IntN.{ℤ, pos, negsuc, negℤ, _-ℤ_}
 use lib.Signed.{mag}
@@ -19,6 +20,7 @@ use lib.Ieee.Fits.{up-pos, down-pos, and-l, and-r}
 use lib.Ieee.Nearest.{div-same}
 use lib.Ieee.Exact.{HasValue, round-exact}
 use lib.Ieee.Back.{round-whole}
+use Rattle.laws.proofs.Tests.{same-test}
 use Rattle.sound.specs.Mix.{floor}
 use Rattle.floats.specs.Values.{signedBy, over149, held, sampleOf}
 use Rattle.floats.proofs.Floor.{same, below-cut, at-cut, held-pos, held-negsuc, held-neg}
@@ -33,21 +35,12 @@ abbrev pub scale : Float
 scale = fin false 1 (pos 15)
 
 -- ---- tests
-bools : (p q : Bool) → (T p → T q) → (T q → T p) → p ≡ q
-bools true true f g = refl
-bools true false f g = absurd (f tt)
-bools false true f g = absurd (g tt)
-bools false false f g = refl
-
 pub no-test : (p : Bool) → p ≡ false → T (not p)
 no-test true e = absurd (true≢false e)
 no-test false e = tt
 
-ltb-eq : (a b a' b' : ℕ) → (a < b → a' < b') → (a' < b' → a < b) → ltb a b ≡ ltb a' b'
-ltb-eq a b a' b' f g = bools (ltb a b) (ltb a' b') (λ t. lt→ltb a' b' (f (ltb→lt a b t))) (λ t. lt→ltb a b (g (ltb→lt a' b' t)))
-
 ltb-same : (a b a' b' k l : ℕ) → 0 < k → 0 < l → a * k ≡ a' * l → b * k ≡ b' * l → ltb a b ≡ ltb a' b'
-ltb-same a b a' b' k l K L p q = ltb-eq a b a' b'
+ltb-same a b a' b' k l K L p q = same-test (suc a) b (suc a') b'
     (λ h. lt-of-mul-lt-mul-right l (subst (λ (z : ℕ). a' * l < z) q (subst (λ (z : ℕ). z < b * k) p (mul-lt-mul-of-pos-right h K))))
     (λ h. lt-of-mul-lt-mul-right k (subst (λ (z : ℕ). a * k < z) (sym q) (subst (λ (z : ℕ). z < b' * l) (sym p) (mul-lt-mul-of-pos-right h L))))
 
@@ -101,8 +94,8 @@ back-value true (suc a) h = round-whole binary32 true (suc a) h
 
 -- the product against its cut
 after : (s : Bool) (a c p : ℕ) → a * c ≤ p → below s (p * 1) (s && nonzero a) (a * c) ≡ (s && ltb (a * c) p)
-after false a c p h = bools (ltb (p * 1) (a * c)) false (λ t. lt-irrefl p (lt-of-lt-of-le (subst (λ (z : ℕ). z < a * c) (mul-one p) (ltb→lt (p * 1) (a * c) t)) h)) (λ t. absurd t)
-after true zero c p h = ltb-eq 0 (p * 1 + 0 * c) (0 * c) p (λ k. omega arith) (λ k. omega arith)
+after false a c p h = le-ltb (p * 1) (a * c) (omega arith)
+after true zero c p h = same-test 1 (p * 1 + 0 * c) (suc (0 * c)) p (λ k. omega arith) (λ k. omega arith)
 after true (suc a) c p h = ap (λ (z : ℕ). ltb (suc a * c) z) (mul-one p)
 
 pub cut-above : (y : Float) (s : Bool) (p c : ℕ) → 0 < c → HasValue y s p c → p / c ≤ 2 ^ 24 → lt y (ofInt binary32 (signedBy s (p / c))) ≡ (s && ltb (p / c * c) p)

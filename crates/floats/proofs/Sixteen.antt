@@ -11,7 +11,7 @@ use mir.Syntax.{w16, w32}
 use mir.Val.{Fits, SFits, toZ, ofZ}
 use mir.ValLaws.{toZ-ofZ}
 use Rattle.sound.specs.Mix.{signed}
-use Rattle.sound.proofs.Whole.{sub-pos}
+use Rattle.laws.proofs.Whole.{sub-pos}
 use Rattle.sound.proofs.Rounding.{signed-low, signed-high}
 
 narrow : (z : ℤ) → mag z < 2 ^ 16 → SFits w32 z

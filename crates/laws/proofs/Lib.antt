@@ -1,5 +1,6 @@
 pub mod Tests
 pub mod Lists
+pub mod Whole
 pub mod Sums
 pub mod Bytes
 pub mod Calls

@@ -1,13 +1,25 @@
 -- Tests: their value from the fact, and the facts from a chain of them.
-use Prim.Native.Nat.{ℕ, zero, suc, _<_}
-use mathlib.Core.Path.{_≡_, refl, ap, _∙_}
+use Prim.Native.Nat.{ℕ, zero, suc, _≤_, _<_}
+use mathlib.Core.Path.{_≡_, refl, sym, ap, _∙_}
 use mathlib.Core.Bool.{Bool, true, false, cond, _&&_, false≢true}
 use native.Mathlib.Omega.{arith}
-use lib.Dec.{eqb}
+use native.Mathlib.Decide.{decLe}
+use lib.Dec.{leb, eqb}
 use borrow.Author.Tests.{le-leb, lt-leb, lt-ltb, le-ltb, eq-eqb, ne-eqb, eqb-true, eqb-false}
 
 -- a test's value from the fact
 pub ruleset tests = (le-leb, lt-leb, lt-ltb, le-ltb, eq-eqb, ne-eqb)
+
+-- two tests of one fact
+pub same-test : (a b c d : ℕ) → (a ≤ b → c ≤ d) → (c ≤ d → a ≤ b) → leb a b ≡ leb c d
+same-test a b c d f g =
+    elim (decLe a b) [
+      | yes h ↦ le-leb a b h ∙ sym (le-leb c d (f h))
+      | no n ↦ lt-leb a b (omega arith) ∙ sym (lt-leb c d (not-within (λ k. n (g k))))
+    ]
+  where
+    not-within : (c ≤ d → ⊥) → d < c
+    not-within m = omega arith
 
 -- two tests that both hold
 pub both : (s t : Bool) → (s && t) ≡ true → (s ≡ true) × (t ≡ true)

@@ -13,7 +13,7 @@ use Rattle.laws.specs.Calls.{over}
 use Rattle.laws.proofs.Lists.{getD-zeros, sets-over}
 use Rattle.laws.proofs.Tests.{chosen}
 use Rattle.sound.specs.Mix.{signed, signedAt, instantSamples, weights, divisor, weighted, floor, mixed, pseudoAbsolute, instantBytes, instantValue}
-use Rattle.sound.proofs.Whole.{sub-add, sub-mul}
+use Rattle.laws.proofs.Whole.{sub-add, sub-mul}
 use Rattle.sound.proofs.Rounding.{lowered}
 
 -- the sum of the products of two lists

@@ -1,5 +1,4 @@
 -- The laws and theorems; a function's own proof stands in the folder of its name.
-pub mod Whole
 pub mod Rounding
 pub mod Instants
 pub mod Meaning

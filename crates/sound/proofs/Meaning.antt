@@ -10,7 +10,7 @@ use borrow.Author.Tests.{eq-eqb, ne-eqb}
 use Rattle.sound.specs.Mix.{signed, floor, pseudoAbsolute}
 use Rattle.sound.specs.Inversion.{inverted, pseudoAbsoluteOfBits}
 use Rattle.sound.specs.Filter.{filterNext}
-use Rattle.sound.proofs.Whole.{by-order, sub-pos, sub-neg, sub-add, negated}
+use Rattle.laws.proofs.Whole.{by-order, sub-pos, sub-neg, sub-add, negated}
 use Rattle.sound.proofs.Rounding.{signed-high, absolute-low, absolute-high}
 
 -- rounding down towards minus infinity: z is d times the floor, and a remainder of at least 0 and less than d

@@ -6,7 +6,7 @@ use native.Mathlib.Omega.{arith}
 use lib.IntN.{ℤ, pos, negsuc, subℕ}
 use borrow.Author.Tests.{lt-ltb, le-ltb}
 use Rattle.sound.specs.Mix.{signed, floor, pseudoAbsolute}
-use Rattle.sound.proofs.Whole.{by-order, sub-pos, sub-neg, sub-eq}
+use Rattle.laws.proofs.Whole.{by-order, sub-pos, sub-neg, sub-eq}
 
 -- a number that is held 32,768 too high
 abbrev pub lowered : ℕ → ℤ
