@@ -155,12 +155,12 @@ struct Session {
     place: usize,
 }
 
-// What a line tells: the field goes on, or it ended with no fingerprint, or with this one.
+// What a line tells: the field goes on, or it ended with no fingerprint, or with this one and so many brighter and darker pixels.
 #[derive(PartialEq)]
 enum Told {
     Open,
     Nothing,
-    Print(u8),
+    Value { fingerprint: u8, brighter: u16, darker: u16 },
 }
 
 impl Session {
@@ -208,30 +208,36 @@ impl Session {
     }
 
     fn end_field(&mut self, two: bool) -> Told {
-        let mut told = None;
+        let (mut told, mut value) = (Told::Nothing, None);
         if self.held < 2 {
             self.held += 1;
         } else {
-            let changed = self.filling.iter().zip(&self.older).filter(|(a, b)| a.abs_diff(**b) >= 32).count();
-            told = Some((changed / 4) as u8);
+            let (mut brighter, mut darker) = (0, 0);
+            for (&current, &older) in self.filling.iter().zip(&self.older) {
+                let difference = current as i16 - older as i16;
+                brighter += u16::from(difference >= 32);
+                darker += u16::from(difference <= -32);
+            }
+            let fingerprint = ((brighter + darker) / 4) as u8;
+            (told, value) = (Told::Value { fingerprint, brighter, darker }, Some(fingerprint));
         }
         self.older = self.newer;
         self.newer = self.filling;
         self.row = 0;
         if two && self.field == 1 {
             self.field = 2;
-            self.first = told;
+            self.first = value;
         } else {
             self.ready = true;
             self.field = 1;
             self.shown.clear();
-            match (two, self.first, told) {
+            match (two, self.first, value) {
                 (true, Some(a), Some(b)) => self.shown.extend([a, b]),
                 (false, _, Some(a)) => self.shown.push(a),
                 _ => (),
             }
         }
-        told.map_or(Told::Nothing, Told::Print)
+        told
     }
 
     #[inline(never)]

@@ -101,7 +101,7 @@ fn monitored(f: &Format, number: usize) -> bool {
 }
 
 #[inline(never)]
-fn line_in_rust(p: &mut Picture, format: u8, number: usize, line: &[u8]) -> (u8, Option<u8>) {
+fn line_in_rust(p: &mut Picture, format: u8, number: usize, line: &[u8]) -> (u8, Option<(u8, u16, u16)>) {
     let Some(f) = FORMATS.get(format as usize) else { return (1, None) };
     if line.len() != 2 * f.1 {
         return (2, None);
@@ -126,8 +126,13 @@ fn line_in_rust(p: &mut Picture, format: u8, number: usize, line: &[u8]) -> (u8,
     if p.held < 2 {
         p.held += 1;
     } else {
-        let changed = p.filling.iter().zip(p.older.iter()).filter(|(a, b)| a.abs_diff(**b) >= 32).count();
-        told = Some((changed / 4) as u8);
+        let (mut brighter, mut darker) = (0, 0);
+        for (&current, &older) in p.filling.iter().zip(p.older.iter()) {
+            let difference = current as i16 - older as i16;
+            brighter += u16::from(difference >= 32);
+            darker += u16::from(difference <= -32);
+        }
+        told = Some((((brighter + darker) / 4) as u8, brighter, darker));
     }
     p.older = p.newer;
     p.newer = p.filling;
@@ -143,7 +148,7 @@ fn lines_in_rust(format: u8, numbers: &[usize], lines: &[u8]) -> u32 {
     for (i, &number) in numbers.iter().enumerate() {
         let (first, second) = lines.split_at(lines.len() / 2);
         let (_, told) = line_in_rust(&mut p, format, number, if i / 16 % 4 < 2 { first } else { second });
-        sum = sum % 1000000 + told.unwrap_or(0) as u32;
+        sum = sum % 1000000 + told.map_or(0, |(value, brighter, darker)| value as u32 + brighter as u32 + 2 * darker as u32);
         p.ready = false;
     }
     sum

@@ -24,6 +24,10 @@ try() {
     echo "feeds: sample-feed $*: no fingerprint or no container came" >&2
     exit 1
   fi
+  if ! awk '/brighter/ { up += $6 > $8; down += $6 < $8 } END { exit !(up && down) }' "$folder/card"; then
+    echo "feeds: sample-feed $*: no field has more brighter pixels than darker ones, or none has fewer" >&2
+    exit 1
+  fi
   count=$((count + 1))
 }
 

@@ -157,7 +157,9 @@ impl Desk {
             Err(refusal) => format!("line {refusal}"),
             Ok(FieldEnd::NotEnded) => "line 0".to_string(),
             Ok(FieldEnd::WithoutFingerprint) => "line 0 field none".to_string(),
-            Ok(FieldEnd::Fingerprint(value)) => format!("line 0 field {value}"),
+            Ok(FieldEnd::Fingerprint { value, brighter, darker }) => {
+                format!("line 0 field {value} brighter {brighter} darker {darker}")
+            }
         }
     }
 
@@ -266,6 +268,54 @@ mod tests {
         let lines = "pack 1\nsetup 0\nline 0\nsound 0\ninstant 0\ninstant 7\nvideo restart\naudio restart\n\
             ok seq 7 rate 5 id 0 video 1 240 audio 0\nrewrite 0 0007045209f0aa\nwrap 20\n";
         assert_eq!(printed(&feed.concat()), lines);
+    }
+
+    /// 720p's lines of one frame, all samples at a byte but the taps 255 + 13k and 256 + 13k of pixels of line 117.
+    fn frame(base: u8, pixels: &[(usize, u8)]) -> Vec<u8> {
+        let words = |value: u8, count| (4 * u16::from(value)).to_le_bytes().repeat(count);
+        let mut first = words(base, 1280);
+        for &(k, value) in pixels {
+            first[2 * (255 + 13 * k)..2 * (257 + 13 * k)].copy_from_slice(&words(value, 2));
+        }
+        let line = |row: u16| [(117 + 32 * row).to_be_bytes().to_vec(), words(base, 1280)].concat();
+        let others = (1..16).flat_map(|row| record(0x11, &line(row)));
+        record(0x11, &[&[0, 117][..], &first].concat()).into_iter().chain(others).collect()
+    }
+
+    /// FEED, A1: the two counts stand behind a fingerprint; ` field none` stays, and a container says what it said.
+    #[test]
+    fn a_field_is_printed_with_its_counts() {
+        let pack = record(0x13, &[0, 255]);
+        let mut feed = record(0x10, &[2, 9, 1]);
+        for (base, pixels) in [
+            (100, &[][..]),
+            (0, &[]),
+            (100, &[(0, 132), (58, 131), (59, 255), (30, 68), (31, 69)]),
+            (255, &[(7, 0)]),
+            (100, &[(0, 100), (59, 132), (30, 0)]),
+        ] {
+            feed.extend([frame(base, pixels), pack.clone()].concat());
+        }
+        feed.extend([record(0x14, &[]), frame(1, &[])].concat());
+        let lines = printed(&feed);
+        let ends: Vec<&str> = lines.lines().filter(|line| *line != "line 0").collect();
+        let expected = [
+            "setup 0",
+            "line 0 field none",
+            "pack 0 000002906e",
+            "line 0 field none",
+            "pack 0 000102906d",
+            "line 0 field 0 brighter 2 darker 1",
+            "pack 0 0002049209005f",
+            "line 0 field 239 brighter 959 darker 0",
+            "pack 0 0003049209ef6f",
+            "line 0 field 0 brighter 0 darker 3",
+            "pack 0 0004049209005d",
+            "video restart",
+            "line 0 field none",
+        ];
+        assert_eq!(ends, expected);
+        assert_eq!(lines.lines().count(), 1 + 6 * 16 + 5 + 1);
     }
 
     /// 02, A3: "Demand 3 reads over these samples".

@@ -2,11 +2,15 @@
 
 use crate::audio::{mix, pseudo_absolute, Sound};
 use crate::container::{self, AudioPlace, VideoValues};
-use crate::video::{changed, fingerprint_of_count};
+use crate::video::{difference, fingerprint_of_count, went_brighter, went_darker};
 use crate::{inspect, packet, session};
 
 #[test]
 fn difference_31_is_unchanged_and_32_changed() {
+    let changed = |current, older| {
+        let difference = difference(current, older);
+        went_brighter(difference) || went_darker(difference)
+    };
     assert!(!changed(31, 0) && !changed(0, 31) && !changed(255, 224));
     assert!(changed(32, 0) && changed(0, 32) && changed(223, 255));
 }

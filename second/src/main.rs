@@ -6,6 +6,8 @@
 mod audio;
 mod big;
 mod container;
+#[cfg(test)]
+mod directions;
 mod exact;
 mod feed;
 #[cfg(test)]

@@ -5,12 +5,13 @@ use crate::formats::{Format, PIXELS_PER_ROW, ROWS_PER_FIELD};
 /// The 60 bytes of one monitored line.
 pub type Row = [u8; PIXELS_PER_ROW];
 
-/// What an accepted line tells: whether it ended a field, and that field's fingerprint.
+/// What an accepted line tells: whether it ended a field, and that field's fingerprint with the two counts behind it
+/// (02, A1).
 #[derive(Debug, Clone, Copy, PartialEq, Eq)]
 pub enum FieldEnd {
     NotEnded,
     WithoutFingerprint,
-    Fingerprint(u8),
+    Fingerprint { value: u8, brighter: usize, darker: usize },
 }
 
 /// A sample counts as its bits 9 to 2, bits 15 to 10 being ignored (01, Video).
@@ -42,9 +43,19 @@ pub fn sample_line(format: u8, line: &[u8], room: usize) -> Result<Row, u8> {
     Ok(sample_row(format, line))
 }
 
-/// 000, 5.2.3.2: changed at a difference of 32 or more, either way.
-pub fn changed(now: u8, before: u8) -> bool {
-    now.abs_diff(before) >= 32
+/// 02, A1: "the signed difference, current minus older, from -255 to 255".
+pub fn difference(current: u8, older: u8) -> i16 {
+    i16::from(current) - i16::from(older)
+}
+
+/// 02, A1: "a change is still 32 or more either way". This is the one way.
+pub fn went_brighter(difference: i16) -> bool {
+    difference >= 32
+}
+
+/// The other way.
+pub fn went_darker(difference: i16) -> bool {
+    difference <= -32
 }
 
 /// 000, 5.2.3.2: the count divided by 4, as a byte of 0 to 240.
@@ -79,13 +90,29 @@ impl Picture {
         self.rows.len() % (ROWS_PER_FIELD * format.fields_per_frame()) == 0
     }
 
-    /// The fingerprint of a field counted from 0 since setup or restart: compared with the second preceding field,
+    /// The differences of a field counted from 0 since setup or restart: compared with the second preceding field,
     /// which the first two fields have not (01, Video; 000, 5.2.3.1).
-    fn fingerprint(&self, field: usize) -> Option<u8> {
+    fn differences(&self, field: usize) -> Option<Vec<i16>> {
         let before = field.checked_sub(2)?;
         let pixels = |field: usize| self.rows[ROWS_PER_FIELD * field..].iter().take(ROWS_PER_FIELD).flatten();
         let pairs = pixels(field).zip(pixels(before));
-        Some(fingerprint_of_count(pairs.filter(|(&now, &then)| changed(now, then)).count()))
+        Some(pairs.map(|(&current, &older)| difference(current, older)).collect())
+    }
+
+    /// What a field that has ended tells: with no predecessor it has neither fingerprint nor counts.
+    fn end_of(&self, field: usize) -> FieldEnd {
+        let Some(differences) = self.differences(field) else { return FieldEnd::WithoutFingerprint };
+        let count = |went: fn(i16) -> bool| differences.iter().filter(|&&difference| went(difference)).count();
+        let (brighter, darker) = (count(went_brighter), count(went_darker));
+        FieldEnd::Fingerprint { value: fingerprint_of_count(brighter + darker), brighter, darker }
+    }
+
+    /// What of a field waits to be packed: the fingerprint alone, since containers stay the same (02, A1).
+    fn fingerprint(&self, field: usize) -> Option<u8> {
+        match self.end_of(field) {
+            FieldEnd::Fingerprint { value, .. } => Some(value),
+            _ => None,
+        }
     }
 
     /// Numbers 2 to 5 of a Line call, in order, then the line's work.
@@ -119,10 +146,7 @@ impl Picture {
             let of_frame = fields - format.fields_per_frame()..fields;
             self.ready = Some(of_frame.map(|field| self.fingerprint(field)).collect());
         }
-        match self.fingerprint(fields - 1) {
-            None => FieldEnd::WithoutFingerprint,
-            Some(value) => FieldEnd::Fingerprint(value),
-        }
+        self.end_of(fields - 1)
     }
 
     /// The frame has been packed: the next one may come.
@@ -200,9 +224,13 @@ mod tests {
         assert_eq!(run_frame(&mut picture, format, 10), [FieldEnd::WithoutFingerprint; 2]);
         assert_eq!(picture.ready(), Some(&vec![None, None]));
         picture.frame_packed();
-        assert_eq!(run_frame(&mut picture, format, 42), [FieldEnd::Fingerprint(240); 2]);
+        let all = FieldEnd::Fingerprint { value: 240, brighter: 960, darker: 0 };
+        assert_eq!(run_frame(&mut picture, format, 42), [all; 2]);
+        assert_eq!(picture.ready(), Some(&vec![Some(240), Some(240)]));
         picture.frame_packed();
-        assert_eq!(run_frame(&mut picture, format, 11), [FieldEnd::Fingerprint(0); 2]);
+        let nothing = FieldEnd::Fingerprint { value: 0, brighter: 0, darker: 0 };
+        assert_eq!(run_frame(&mut picture, format, 11), [nothing; 2]);
+        assert_eq!(picture.ready(), Some(&vec![Some(0), Some(0)]));
     }
 
     #[test]
@@ -216,7 +244,10 @@ mod tests {
         }
         let none = FieldEnd::WithoutFingerprint;
         assert_eq!(told[..2], [none, none]);
-        assert_eq!(told[2..], [FieldEnd::Fingerprint(0), FieldEnd::Fingerprint(240), FieldEnd::Fingerprint(240)]);
+        let nothing = FieldEnd::Fingerprint { value: 0, brighter: 0, darker: 0 };
+        let darker = FieldEnd::Fingerprint { value: 240, brighter: 0, darker: 960 };
+        let brighter = FieldEnd::Fingerprint { value: 240, brighter: 960, darker: 0 };
+        assert_eq!(told[2..], [nothing, darker, brighter], "31 over 0, 68 over 100, 63 over 31");
     }
 
     #[test]

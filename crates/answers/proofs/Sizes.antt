@@ -15,8 +15,8 @@ use Rattle.answers.specs.declared.Cause.{Cause}
 use Rattle.answers.specs.declared.Hand.{Hand}
 use Rattle.answers.specs.declared.Answer.{Answer}
 use Rattle.answers.specs.declared.Answer.the-variants.{Setup, Line, Sound, Instant, VideoRestart, AudioRestart, Handed, Reported, Bad, Finished}
-use Rattle.answers.specs.Words.{setup, line, sound, instant, field}
-use Rattle.answers.specs.Lines.{numberLine, toldText, lineLine, handRow, handSize, handWord, hexPart, noSpill, handedLine, lineWith, saidOf, lineOf, Quiet}
+use Rattle.answers.specs.Words.{setup, line, sound, instant, field, brighter, darker}
+use Rattle.answers.specs.Lines.{numberLine, fieldText, toldText, lineLine, handRow, handSize, handWord, hexPart, noSpill, handedLine, lineWith, saidOf, lineOf, Quiet}
 use Rattle.answers.specs.Faults.{causeRow, causeSize, causeTag, causeTags, recordWord, atByte, colon, causeText, faultText}
 use Rattle.answers.proofs.Watch.{hex-part-size, spill-none}
 use Rattle.answers.proofs.Rows.{hand-within, cause-within}
@@ -25,12 +25,24 @@ number-size : (word : List ℕ) (n : ℕ) → length (numberLine word n) ≤ len
 unfolding numberLine
 number-size word n = omega (arith, length-append (item word n) newline, item-size word n)
 
-told-size : (t : Told) → length (toldText t) ≤ 27
+field-size : (f b k : ℕ) → length (fieldText f b k) ≤ 85
+unfolding fieldText
+field-size f b k =
+    omega (
+      arith,
+      length-append (item field f ++ item brighter b) (item darker k),
+      length-append (item field f) (item brighter b),
+      item-size field f,
+      item-size brighter b,
+      item-size darker k,
+    )
+
+told-size : (t : Told) → length (toldText t) ≤ 85
 told-size Open = omega arith
 told-size Nothing = omega arith
-told-size (Value f) = omega (arith, item-size field f)
+told-size (Value f b k) = field-size f b k
 
-line-size : (n : ℕ) (told : Told) → length (lineLine n told) ≤ 64
+line-size : (n : ℕ) (told : Told) → length (lineLine n told) ≤ 111
 unfolding lineLine
 line-size n told = omega (arith, length-append (item line n ++ toldText told) newline, length-append (item line n) (toldText told), item-size line n, told-size told)
 

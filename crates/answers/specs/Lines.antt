@@ -14,17 +14,21 @@ use Rattle.answers.specs.declared.Hand.{Hand}
 use Rattle.answers.specs.declared.Hand.the-variants.{Pack, Sample, Rewrite, Wrap, Unwrap, Write}
 use Rattle.answers.specs.declared.Answer.{Answer}
 use Rattle.answers.specs.declared.Answer.the-variants.{Setup, Line, Sound, Instant, VideoRestart, AudioRestart, Handed, Reported, Bad, Finished}
-use Rattle.answers.specs.Words.{setup, line, sound, instant, field, fieldNone, videoRestart, audioRestart, spilled, bad}
+use Rattle.answers.specs.Words.{setup, line, sound, instant, field, brighter, darker, fieldNone, videoRestart, audioRestart, spilled, bad}
 
 -- `word N`
 unfoldable pub numberLine : List ℕ → ℕ → List ℕ
 numberLine word number = item word number ++ newline
 
--- "where the line ended a field ` field F` (its fingerprint) or ` field none`"
+-- "where a field has a fingerprint: `line N field F brighter B darker K`" (A1)
+unfoldable pub fieldText : ℕ → ℕ → ℕ → List ℕ
+fieldText f b k = item field f ++ item brighter b ++ item darker k
+
+-- "`field none` stays" (A1)
 abbrev pub toldText : Told → List ℕ
 toldText Open = []
 toldText Nothing = fieldNone
-toldText (Value f) = item field f
+toldText (Value f b k) = fieldText f b k
 
 unfoldable pub lineLine : ℕ → Told → List ℕ
 lineLine number told = item line number ++ toldText told ++ newline

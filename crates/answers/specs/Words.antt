@@ -22,6 +22,14 @@ instant = 105 ∷ 110 ∷ 115 ∷ 116 ∷ 97 ∷ 110 ∷ 116 ∷ 32 ∷ []
 abbrev pub field : List ℕ
 field = 32 ∷ 102 ∷ 105 ∷ 101 ∷ 108 ∷ 100 ∷ 32 ∷ []
 
+-- ` brighter `
+abbrev pub brighter : List ℕ
+brighter = 32 ∷ 98 ∷ 114 ∷ 105 ∷ 103 ∷ 104 ∷ 116 ∷ 101 ∷ 114 ∷ 32 ∷ []
+
+-- ` darker `
+abbrev pub darker : List ℕ
+darker = 32 ∷ 100 ∷ 97 ∷ 114 ∷ 107 ∷ 101 ∷ 114 ∷ 32 ∷ []
+
 -- ` field none`
 abbrev pub fieldNone : List ℕ
 fieldNone = 32 ∷ 102 ∷ 105 ∷ 101 ∷ 108 ∷ 100 ∷ 32 ∷ 110 ∷ 111 ∷ 110 ∷ 101 ∷ []

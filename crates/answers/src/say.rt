@@ -4,7 +4,7 @@ ghost use mathlib.Core.Bool.{cond};
 ghost use lib.ListN.{take};
 ghost use lib.Dec.{leb};
 ghost use Rattle.text.specs.Lines.{Put};
-ghost use Rattle.answers.specs.Lines.{numberLine, toldText, lineLine, handRow, handSize, handWord, hexPart, isUntouched, spillPart, handedLine, saidOf};
+ghost use Rattle.answers.specs.Lines.{numberLine, fieldText, toldText, lineLine, handRow, handSize, handWord, hexPart, isUntouched, spillPart, handedLine, saidOf};
 use crate::Answer;
 use crate::Hand;
 use laws::Done;
@@ -17,6 +17,15 @@ fn say_number(word: &[u8], n: u8, out: &mut [u8]) -> usize
     text::put(b"\n", out, p)
 }
 
+// The fingerprint of a field, and its two counts beside it.
+fn put_field(fingerprint: u8, brighter: u16, darker: u16, out: &mut [u8], at: usize) -> usize
+    ensures { λ r. ⌜ Put (now (out .entry)) at (fieldText fingerprint brighter darker) (now (out .exit)) r ⌝ }
+{
+    let p = text::put_item(b" field ", fingerprint as u64, out, at);
+    let q = text::put_item(b" brighter ", brighter as u64, out, p);
+    text::put_item(b" darker ", darker as u64, out, q)
+}
+
 // What a line that ends a field tells.
 fn put_told(told: Told, out: &mut [u8], at: usize) -> usize
     ensures { λ r. ⌜ Put (now (out .entry)) at (toldText told) (now (out .exit)) r ⌝ }
@@ -24,7 +33,11 @@ fn put_told(told: Told, out: &mut [u8], at: usize) -> usize
     match told {
         Told::Open => at,
         Told::Nothing => text::put(b" field none", out, at),
-        Told::Value(f) => text::put_item(b" field ", f as u64, out, at),
+        Told::Value {
+            fingerprint,
+            brighter,
+            darker,
+        } => put_field(fingerprint, brighter, darker, out, at),
     }
 }
 

@@ -1,5 +1,5 @@
--- What the exports for measuring give: a picture taken through many lines, and its fingerprints added up.
-use Prim.Native.Nat.{ℕ, zero, suc, _+_, _/_, _%_}
+-- What the exports for measuring give: a picture taken through many lines, and what they tell added up.
+use Prim.Native.Nat.{ℕ, zero, suc, _+_, _*_, _/_, _%_}
 use mathlib.Core.Bool.{cond}
 use mathlib.Core.List.{List}
 use lib.Dec.{ltb}
@@ -9,11 +9,11 @@ use Rattle.picture.specs.declared.Told.the-variants.{Open, Nothing, Value}
 use Rattle.picture.specs.Pictures.{freshPicture, handedOut, lineOf}
 use Rattle.bench_video.specs.declared.After.{After}
 
--- a fingerprint, or 0
+-- a fingerprint, the brighter pixels and twice the darker ones, or 0
 unfoldable pub valueOf : Told → ℕ
 valueOf Open = 0
 valueOf Nothing = 0
-valueOf (Value v) = v
+valueOf (Value v b k) = v + b + 2 * k
 
 -- one line; a frame that is ready is handed out
 unfoldable pub stepOf : After → ℕ → ℕ → List ℕ → After

@@ -1,5 +1,6 @@
 // Exports for bench/video.sh.
 ghost use mathlib.Core.Path.{_≡_};
+ghost use Prim.Native.Nat.{_<_};
 ghost use lib.ListN.{length};
 ghost use Rattle.sampling.specs.Samples.{sampleDone, sampleOut};
 ghost use Rattle.bench_video.specs.Bench.{valueOf, stepOf, afterLines};
@@ -21,13 +22,18 @@ struct After {
     sum: u32,
 }
 
-fn value(told: Told) -> u8
-    ensures { λ r. ⌜ r ≡ valueOf told ⌝ }
+// Each value told, so that none is left out of what is measured, and the darker pixels twice, so that no two can change places.
+fn value(told: Told) -> u32
+    ensures { λ r. ⌜ (r ≡ valueOf told) × (r < 1000000) ⌝ }
 {
     match told {
         Told::Open => 0,
         Told::Nothing => 0,
-        Told::Value(v) => v,
+        Told::Value {
+            fingerprint,
+            brighter,
+            darker,
+        } => fingerprint as u32 + brighter as u32 + 2 * darker as u32,
     }
 }
 
@@ -43,7 +49,7 @@ fn step(a: After, format: u8, number: usize, line: &[u8]) -> After
     let r = handed.picture;
     After {
         picture: r,
-        sum: a.sum % 1000000 + value(told) as u32,
+        sum: a.sum % 1000000 + value(told),
     }
 }
 

@@ -17,7 +17,9 @@ use Rattle.rates.specs.Mixes.{mixListed}
 use Rattle.rates.specs.Cadence.{countOccurs}
 use Rattle.sampling.specs.Samples.{firsts}
 use Rattle.sampling.proofs.Filled.{length-firsts}
+use Rattle.picture.specs.declared.Told.{Told}
 use Rattle.picture.specs.declared.Told.the-variants.{Open}
+use Rattle.picture.specs.Fields.{toldValues}
 use Rattle.picture.specs.History.{isWaiting}
 use Rattle.container.specs.declared.Print.{Print}
 use Rattle.laws.specs.declared.Video.{Video}
@@ -35,8 +37,8 @@ use Rattle.demands.specs.Calls.{Setup, Call, line, sound, instant, pack,
 use Rattle.session.specs.Packing.{readyNumber}
 use Rattle.demands.specs.Paper.{waiting, made, audioAfter, sounded, contentsSaid, packedSaid, said, saidEmpty, accepted, paper, transcript}
 use Rattle.demands.specs.Demands.{readBack}
-use Rattle.demands.specs.Programs.{RightNumbers, bytesIn, RefusesLines, RefusesSound, RefusesInstants, RefusesPacks, TellsAlways, ShowsAlways, Speaks, SpeaksAlways, PacksAlways, Forgets, newest, Repeats, Invents, Claims}
-use Rattle.demands.specs.Examples.{refusing, withBytes, bytesBy, altering, toldAs, telling, shownAs, withVideo, showing, printAs, withAudio, speaking, packing, forgetting, repeating, withByte, inventing, claiming}
+use Rattle.demands.specs.Programs.{RightNumbers, bytesIn, RefusesLines, RefusesSound, RefusesInstants, RefusesPacks, TellsAlways, Exchanges, ShowsAlways, Speaks, SpeaksAlways, PacksAlways, Forgets, newest, Repeats, Invents, Claims}
+use Rattle.demands.specs.Examples.{refusing, withBytes, bytesBy, altering, tellingBy, toldAs, telling, toldExchanged, exchanging, shownAs, withVideo, showing, printAs, withAudio, speaking, packing, forgetting, repeating, withByte, inventing, claiming}
 use Rattle.demands.proofs.Listed.{listed}
 use Rattle.demands.proofs.Packable.{said-passes, said-typed-as}
 use Rattle.demands.proofs.Against.{set-up}
@@ -47,9 +49,16 @@ refusing-refuses = (λ u cs n b e. omega arith, λ u cs k b e. omega arith, λ u
 
 -- ---- Video: a value told, a value shown
 
-pub telling-tells : (v : Setup → ℕ) → TellsAlways v (telling v)
-unfolding telling toldAs
-telling-tells v u cs c w e = ap (toldAs (v u)) e
+pub telling-tells : (i : ℕ) (v : Setup → ℕ) → i < 3 → TellsAlways i v (telling i v)
+unfolding telling tellingBy toldAs toldValues
+telling-tells zero v h u cs c w b k e = ap (λ (t : Told). getD (toldValues (toldAs 0 (v u) t)) 0 0) e
+telling-tells (suc zero) v h u cs c w b k e = ap (λ (t : Told). getD (toldValues (toldAs 1 (v u) t)) 1 0) e
+telling-tells (suc (suc zero)) v h u cs c w b k e = ap (λ (t : Told). getD (toldValues (toldAs 2 (v u) t)) 2 0) e
+telling-tells (suc (suc (suc i))) v h u cs c w b k e = absurd (let z : ⊥ = omega arith in z)
+
+pub exchanging-exchanges : Exchanges exchanging
+unfolding exchanging tellingBy toldExchanged
+exchanging-exchanges u cs c w b k e = ap toldExchanged e
 
 -- the container of a program that packs these bytes
 module _ (bytes : List ℕ) (id out : List ℕ) (a : Answer) (z : a .number ≡ 0) where

@@ -1,11 +1,10 @@
 -- Document 01's starred figures ("Figures to check against"), as one table.
 use Prim.Native.Nat.{ℕ, _+_, _≤_, _<_}
-use mathlib.Core.Path.{_≡_, refl}
-use mathlib.Core.Bool.{true, false, or-true}
+use mathlib.Core.Path.{_≡_, refl, _∙_}
+use mathlib.Core.Bool.{true, false}
 use mathlib.Core.List.{List, [], _∷_}
 use native.Mathlib.Omega.{arith}
 use lib.IntN.{negsuc}
-use lib.Dec.{leb}
 use lib.ListN.{replicate}
 use borrow.Author.Tests.{le-leb, lt-leb}
 use Rattle.laws.specs.Calls.{over}
@@ -14,7 +13,8 @@ use Rattle.laws.specs.Sums.{sum}
 use Rattle.rates.specs.Rates.{rateListed}
 use Rattle.rates.specs.Mixes.{mixListed}
 use Rattle.rates.specs.Cadence.{cadences, cadence, countOccurs, frames, from}
-use Rattle.picture.specs.Fields.{changedBy, changesIn, fingerprintOf}
+use Rattle.picture.specs.Fields.{difference, isBrighter, isDarker, brighterIn, darkerIn, fingerprintOf}
+use Rattle.picture.proofs.Compared.{brighter-is, darker-is}
 use Rattle.sound.specs.Mix.{signed, signedAt, instantSamples, weights, divisor, weighted, floor, mixed, pseudoAbsolute}
 use Rattle.sound.specs.Filter.{filterNext, filtered, envelopeAfter, meanAfter}
 use Rattle.laws.specs.declared.Video.{Video}
@@ -47,14 +47,17 @@ reads counter rate video count prints =
 abbrev bytesFF01 : Print
 bytesFF01 = record { id = 0; mix = 1; size = 2; bytes = 0xFF ∷ 0x01 ∷ 0 ∷ 0 ∷ 0 ∷ [] }
 
+abbrev Unchanged : ℕ → ℕ → Type 0
+Unchanged x y = (isBrighter (difference x y) ≡ false) × (isDarker (difference x y) ≡ false)
+
 pub record Figures : Type 0 where
   -- Difference 31 is unchanged, 32 changed, either way
-  pub unchanged-31 : (x : ℕ) → (changedBy x (x + 31) ≡ false) × (changedBy (x + 31) x ≡ false)
-  pub changed-32 : (x : ℕ) → (changedBy x (x + 32) ≡ true) × (changedBy (x + 32) x ≡ true)
+  pub unchanged-31 : (x : ℕ) → Unchanged x (x + 31) × Unchanged (x + 31) x
+  pub changed-32 : (x : ℕ) → (isDarker (difference x (x + 32)) ≡ true) × (isBrighter (difference (x + 32) x) ≡ true)
   -- 3 changed give 0, 4 give 1, 960 give 240
-  pub three : (f g : List ℕ) → changesIn f g ≡ 3 → fingerprintOf f g ≡ 0
-  pub four : (f g : List ℕ) → changesIn f g ≡ 4 → fingerprintOf f g ≡ 1
-  pub all : (f g : List ℕ) → changesIn f g ≡ 960 → fingerprintOf f g ≡ 240
+  pub three : (f g : List ℕ) → brighterIn f g + darkerIn f g ≡ 3 → fingerprintOf f g ≡ 0
+  pub four : (f g : List ℕ) → brighterIn f g + darkerIn f g ≡ 4 → fingerprintOf f g ≡ 1
+  pub all : (f g : List ℕ) → brighterIn f g + darkerIn f g ≡ 960 → fingerprintOf f g ≡ 240
   -- -1000 becomes 999; -32768 becomes 32767
   pub thousand : pseudoAbsolute (negsuc 999) ≡ 999
   pub lowest : pseudoAbsolute (negsuc 32767) ≡ 32767
@@ -79,23 +82,14 @@ pub record Figures : Type 0 where
   pub audio : reading (0x00 ∷ 0x00 ∷ 0x07 ∷ 0xB1 ∷ 0x02 ∷ 0x01 ∷ 0x10 ∷ 0xFF ∷ 0x01 ∷ 0x35 ∷ []) ≡ reads 0 11 Absent 1 (bytesFF01 ∷ replicate 31 blankPrint)
   pub checksum : reading (0x00 ∷ 0x00 ∷ 0x07 ∷ 0xB1 ∷ 0x02 ∷ 0x01 ∷ 0x10 ∷ 0xFF ∷ 0x01 ∷ 0x36 ∷ []) .number ≡ 23
 
-unchanged : (x y : ℕ) → x < y + 32 → y < x + 32 → changedBy x y ≡ false
-unfolding changedBy
-unchanged x y h k = rw (lt-leb (y + 32) x h, lt-leb (x + 32) y k) refl
-
-brighter : (x y : ℕ) → y + 32 ≤ x → changedBy x y ≡ true
-unfolding changedBy
-brighter x y h = rw (le-leb (y + 32) x h) refl
-
-darker : (x y : ℕ) → x + 32 ≤ y → changedBy x y ≡ true
-unfolding changedBy
-darker x y h = rw (le-leb (x + 32) y h) (or-true (leb (y + 32) x))
+unchanged : (x y : ℕ) → x < y + 32 → y < x + 32 → Unchanged x y
+unchanged x y h k = (brighter-is x y ∙ lt-leb (y + 32) x h, darker-is x y ∙ lt-leb (x + 32) y k)
 
 pub figures : Figures
 unfolding fingerprintOf pseudoAbsolute mixed floor weighted weights divisor instantSamples signedAt signed filtered filterNext reading headerNumber partsReading partsJoined middle idPart videoPart oneField audioPart audioOf runOf printPart printAt countOccurs cadence cadences frames from isOneOf sameCount allCarry over sum rateListed mixListed packetWords frontWords headWords wordOf withBit9 parity sum9 checkWord
 figures = record {
   unchanged-31 = λ x. (unchanged x (x + 31) (omega arith) (omega arith), unchanged (x + 31) x (omega arith) (omega arith));
-  changed-32 = λ x. (darker x (x + 32) (omega arith), brighter (x + 32) x (omega arith));
+  changed-32 = λ x. (darker-is x (x + 32) ∙ le-leb (x + 32) (x + 32) (omega arith), brighter-is (x + 32) x ∙ le-leb (x + 32) (x + 32) (omega arith));
   three = λ f g e. rw e;
   four = λ f g e. rw e;
   all = λ f g e. rw e;

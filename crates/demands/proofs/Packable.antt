@@ -22,12 +22,11 @@ use Rattle.picture.specs.declared.Told.{Told}
 use Rattle.picture.specs.declared.Told.the-variants.{Open, Nothing, Value}
 use Rattle.laws.specs.declared.Video.{Video}
 use Rattle.laws.specs.declared.Video.the-variants as shown
-use Rattle.picture.specs.Fields.{fingerprintOf}
+use Rattle.picture.specs.Changed.{Sums}
 use Rattle.picture.specs.Lines.{interlaced}
 use Rattle.picture.specs.Pictures.{shownOne, shownTwo}
 use Rattle.picture.specs.History.{fieldTells, startsFrame, frameShows, Waiting, waitingShows, takes, linesAfter, waitingAfter}
-use Rattle.picture.proofs.Compared.{changes-small}
-use Rattle.picture.proofs.Sizes.{Each, fields-sized}
+use Rattle.picture.proofs.Sizes.{Each, fields-sized, tells-sums}
 use Rattle.picture.proofs.Sizes as sizes
 use Rattle.sound.specs.Filter.{meanAfter, envelopeAfter, bitOf}
 use Rattle.fingerprint.specs.History.{upTo, bitAt, bitsFrom, fromBits, bytesFrom}
@@ -60,47 +59,35 @@ lines-sized f (e ∷ es) = go (e .call) (lines-sized f es)
     go video-restart a = sizes.none
     go audio-restart a = a
 
-abbrev ToldFits : Told → Type 0
-ToldFits Open = Unit {0}
-ToldFits Nothing = Unit {0}
-ToldFits (Value v) = v ≤ 240
-
 abbrev ShownFits : ℕ → Video → Type 0
 ShownFits rate shown.Absent = Unit {0}
 ShownFits rate (shown.One a) = a ≤ 240
 ShownFits rate (shown.Two a b) = (a ≤ 240) × (b ≤ 240) × (rates.twoFields rate ≡ true)
 
-tells-fit : {fs : List (List ℕ)} → Each 960 fs → ToldFits (fieldTells fs)
-unfolding fieldTells fingerprintOf
-tells-fit sizes.none = tt
-tells-fit (sizes.more e sizes.none) = tt
-tells-fit (sizes.more e (sizes.more e′ sizes.none)) = tt
-tells-fit (sizes.more {l = f} e (sizes.more e′ (sizes.more {l = h} e″ a))) = omega (arith, changes-small f h)
+tells-before : {fs : List (List ℕ)} → Each 960 fs → Sums (fieldTells (drop 1 fs))
+tells-before sizes.none = tells-sums {fs = []} sizes.none
+tells-before (sizes.more e a) = tells-sums a
 
-tells-before : {fs : List (List ℕ)} → Each 960 fs → ToldFits (fieldTells (drop 1 fs))
-tells-before sizes.none = tells-fit {fs = []} sizes.none
-tells-before (sizes.more e a) = tells-fit a
-
-one-fits : (rate : ℕ) (t : Told) → ToldFits t → ShownFits rate (shownOne t)
+one-fits : (rate : ℕ) (t : Told) → Sums t → ShownFits rate (shownOne t)
 unfolding shownOne
 one-fits rate Open h = tt
 one-fits rate Nothing h = tt
-one-fits rate (Value v) h = h
+one-fits rate (Value v b k) h = omega (arith, h .0, h .1)
 
-two-fit : (rate : ℕ) (t t′ : Told) → ToldFits t → ToldFits t′ → rates.twoFields rate ≡ true → ShownFits rate (shownTwo t t′)
+two-fit : (rate : ℕ) (t t′ : Told) → Sums t → Sums t′ → rates.twoFields rate ≡ true → ShownFits rate (shownTwo t t′)
 unfolding shownTwo
 two-fit rate Open t′ h h′ e = tt
 two-fit rate Nothing t′ h h′ e = tt
-two-fit rate (Value a) Open h h′ e = tt
-two-fit rate (Value a) Nothing h h′ e = tt
-two-fit rate (Value a) (Value b) h h′ e = (h, h′, e)
+two-fit rate (Value v b k) Open h h′ e = tt
+two-fit rate (Value v b k) Nothing h h′ e = tt
+two-fit rate (Value v b k) (Value v′ b′ k′) h h′ e = (omega (arith, h .0, h .1), omega (arith, h′ .0, h′ .1), e)
 
 module _ (f rate : ℕ) (pairs : pairsWith f rate ≡ true) where
   frame-fits : {fs : List (List ℕ)} → Each 960 fs → ShownFits rate (frameShows f fs)
   unfolding frameShows
   frame-fits {fs} a = chosen (ShownFits rate) (interlaced (rowOf f)) _ _
-      (λ t. two-fit rate (fieldTells (drop 1 fs)) (fieldTells fs) (tells-before a) (tells-fit a) (two-at f rate pairs t))
-      (λ t. one-fits rate (fieldTells fs) (tells-fit a))
+      (λ t. two-fit rate (fieldTells (drop 1 fs)) (fieldTells fs) (tells-before a) (tells-sums a) (two-at f rate pairs t))
+      (λ t. one-fits rate (fieldTells fs) (tells-sums a))
 
   abbrev Fits : Waiting → Type 0
   Fits w = ShownFits rate (waitingShows w)

@@ -1,6 +1,6 @@
 -- Document 01's wrong programs ("What we hold each promise to", "Try these"), each shut out by the demand, or both, that it names. The kinds of program
 -- stand in specs/Programs, one of each in specs/Examples. The runs are small, of 720p: one mono fingerprint at 24 Hz, and two at 25 Hz (Story, Shots).
-use Prim.Native.Nat.{ℕ, _<_}
+use Prim.Native.Nat.{ℕ, zero, suc, _<_}
 use mathlib.Core.Path.{_≡_, sym, ap, subst, _∙_}
 use mathlib.Core.Bool.{true}
 use mathlib.Core.List.{List, [], _∷_}
@@ -12,15 +12,15 @@ use Rattle.container.specs.Reading.{reading}
 use Rattle.demands.specs.Calls.{Setup, line, pack, Answer}
 use Rattle.demands.specs.Paper.{accepted, Program, transcript}
 use Rattle.demands.specs.Demands.{readBack, Demand2, Demand3}
-use Rattle.demands.specs.Programs.{RightNumbers, RefusesLines, RefusesSound, RefusesInstants, RefusesPacks, TellsAlways, ShowsAlways, Speaks, SpeaksAlways, PacksAlways, Forgets, Repeats, Invents, Claims}
-use Rattle.demands.specs.Examples.{refusing, telling, showing, speaking, packing, forgetting, repeating, inventing, claiming}
+use Rattle.demands.specs.Programs.{RightNumbers, RefusesLines, RefusesSound, RefusesInstants, RefusesPacks, TellsAlways, Exchanges, ShowsAlways, Speaks, SpeaksAlways, PacksAlways, Forgets, Repeats, Invents, Claims}
+use Rattle.demands.specs.Examples.{refusing, telling, exchanging, showing, speaking, packing, forgetting, repeating, inventing, claiming}
 use Rattle.demands.proofs.Fade.{click}
 use Rattle.demands.proofs.Story.{room}
 use Rattle.demands.proofs.Shots.{dark, first, second, third, u, is-accepted, still, first-block, first-instant, packs-1, packs-2, packs-3, audio-1, audio-3, never-both}
 use Rattle.demands.proofs.Against.{as-said, right-numbers, follows, followed, bits-too, counts, spoken, speaks, reads-same, speaks-same, second-is-first, third-is-first, first-some}
-use Rattle.demands.proofs.Pictured.{first-row, not-again, gives-0, gives-240, told-is, shown-is}
+use Rattle.demands.proofs.Pictured.{first-row, not-again, gives-0, gives-brighter, gives-darker, exchanged-is, told-is, shown-is}
 use Rattle.demands.proofs.Invented.{two, in-one-first, in-two-first, in-two-second, of-two-first, of-two-second, one-first-is, two-first-is, two-second-is}
-use Rattle.demands.proofs.Examples.{refusing-refuses, telling-tells, showing-shows, speaking-speaks, speaking-numbers, packing-packs, packing-numbers, forgetting-forgets, repeating-repeats, repeating-numbers, inventing-invents, claiming-claims}
+use Rattle.demands.proofs.Examples.{refusing-refuses, telling-tells, exchanging-exchanges, showing-shows, speaking-speaks, speaking-numbers, packing-packs, packing-numbers, forgetting-forgets, repeating-repeats, repeating-numbers, inventing-invents, claiming-claims}
 
 -- "one that refuses everything (shut out by demand 2, as the table says when to accept)": the first row of the first frame is accepted
 pub refusing-lines-2 : (p : Program) → RefusesLines p → Demand2 p → ⊥
@@ -38,19 +38,23 @@ refusing-instants-2 p r d = r u [] 0 still (first-instant (follows p d is-accept
 pub refusing-packs-2 : (p : Program) → RefusesPacks p → Demand2 p → ⊥
 refusing-packs-2 p r d = r u (first 1) [] room (packs-1 (follows p d is-accepted))
 
--- "one constant fingerprint or container (demands 2 and 3)". Demand 2, of a video fingerprint: a third frame tells 0 where it is black as the first was, and
--- 240 where it is white
-pub constant-told-2 : (p : Program) (v : Setup → ℕ) → TellsAlways v p → Demand2 p → ⊥
-constant-told-2 p v f d =
-    let one = told-is p d v gives-0 f in
-    let other = told-is p d v gives-240 f in
-    omega arith
+-- "one constant fingerprint or container (demands 2 and 3)". Demand 2, of a video fingerprint and of each count beside it: a third frame tells 0, 0, 0 where it
+-- is black as the first was, 240, 960, 0 where it is white after black, and 240, 0, 960 where it is black after white
+pub constant-told-2 : (p : Program) (i : ℕ) (v : Setup → ℕ) → i < 3 → TellsAlways i v p → Demand2 p → ⊥
+constant-told-2 p zero v h f d = omega (arith, told-is p d v gives-0 0 f, told-is p d v gives-brighter 0 f)
+constant-told-2 p (suc zero) v h f d = omega (arith, told-is p d v gives-0 1 f, told-is p d v gives-brighter 1 f)
+constant-told-2 p (suc (suc zero)) v h f d = omega (arith, told-is p d v gives-0 2 f, told-is p d v gives-darker 2 f)
+constant-told-2 p (suc (suc (suc i))) v h f d = omega arith
+
+-- and the counts in each other's place (02, A1)
+pub exchanged-told-2 : (p : Program) → Exchanges p → Demand2 p → ⊥
+exchanged-told-2 p f d = omega (arith, exchanged-is p d gives-brighter f)
 
 -- and its container has the same
 pub constant-shown-2 : (p : Program) (v : Setup → ℕ) → ShowsAlways v p → Demand2 p → ⊥
 constant-shown-2 p v f d =
     let one = shown-is p d v gives-0 f in
-    let other = shown-is p d v gives-240 f in
+    let other = shown-is p d v gives-brighter f in
     omega arith
 
 -- Demand 3, of an audio fingerprint, whatever its bytes and however many: after a click its bit 1 has to be 1 in the first container and 0 in the third. A
@@ -134,8 +138,11 @@ invented-count p x f d =
 pub some-refusing : RefusesLines refusing × RefusesSound refusing × RefusesInstants refusing × RefusesPacks refusing
 some-refusing = refusing-refuses
 
-pub some-told : (v : Setup → ℕ) → TellsAlways v (telling v)
+pub some-told : (i : ℕ) (v : Setup → ℕ) → i < 3 → TellsAlways i v (telling i v)
 some-told = telling-tells
+
+pub some-exchanged : Exchanges exchanging
+some-exchanged = exchanging-exchanges
 
 pub some-shown : (v : Setup → ℕ) → ShowsAlways v (showing v)
 some-shown = showing-shows

@@ -42,20 +42,34 @@ bytesBy e u es audio-restart = []
 unfoldable pub altering : (Contents → Contents) → Program
 altering e u es c = withBytes (bytesBy e u es c) c (paper u es c)
 
--- v for each video value
-unfoldable pub toldAs : ℕ → Told → Told
-toldAs v Open = Open
-toldAs v Nothing = Nothing
-toldAs v (Value w) = Value v
-
-unfoldable pub telling : (Setup → ℕ) → Program
-telling v u es c =
+-- what is told is changed by e
+unfoldable pub tellingBy : (Setup → Told → Told) → Program
+tellingBy e u es c =
     record {
       number = paper u es c .number;
-      told = toldAs (v u) (paper u es c .told);
+      told = e u (paper u es c .told);
       written = paper u es c .written;
       out = paper u es c .out;
     }
+
+-- v for value number i
+unfoldable pub toldAs : ℕ → ℕ → Told → Told
+toldAs i v Open = Open
+toldAs i v Nothing = Nothing
+toldAs i v (Value w b k) = Value (cond (eqb i 0) v w) (cond (eqb i 1) v b) (cond (eqb i 2) v k)
+
+unfoldable pub telling : ℕ → (Setup → ℕ) → Program
+telling i v = tellingBy (λ u. toldAs i (v u))
+
+unfoldable pub toldExchanged : Told → Told
+toldExchanged Open = Open
+toldExchanged Nothing = Nothing
+toldExchanged (Value w b k) = Value w k b
+
+unfoldable pub exchanging : Program
+exchanging = tellingBy (λ u. toldExchanged)
+
+-- v for each video value
 
 unfoldable pub shownAs : ℕ → Video → Video
 shownAs v Absent = Absent

@@ -1,4 +1,4 @@
--- Document 01, with 02's A3 and A7, as a function of what was set up and of the calls and answers so far: no slot, no store of bits, no wait, no counter and no place is kept.
+-- Document 01, with 02's A1, A2, A3 and A7, as a function of what was set up and of the calls and answers so far: no slot, no store of bits, no wait, no counter and no place is kept.
 use Prim.Native.Nat.{ℕ, zero, suc, _+_, _-_, _*_, _%_}
 use mathlib.Core.Bool.{Bool, true, cond, _&&_}
 use mathlib.Core.List.{List, [], _∷_, _++_}

@@ -9,6 +9,7 @@ use lib.ListN.{length, getD, take}
 use Rattle.laws.specs.Bytes.{Bytes}
 use Rattle.floats.specs.declared.Instant.{Instant}
 use Rattle.picture.specs.declared.Told.the-variants.{Value}
+use Rattle.picture.specs.Fields.{toldValues}
 use Rattle.laws.specs.declared.Video.the-variants.{Absent}
 use Rattle.container.specs.declared.Contents.{Contents}
 use Rattle.container.specs.Contents.{blankPrint}
@@ -42,11 +43,15 @@ RefusesInstants p = Throughout p (λ u es. (k : ℕ) (i : Instant) → p u es (i
 abbrev pub RefusesPacks : Program → Type 0
 RefusesPacks p = Throughout p (λ u es. (id out : List ℕ) → p u es (pack id out) .number ≡ 0 → ⊥)
 
--- ---- "one constant fingerprint": of video
+-- ---- "one constant fingerprint": of video; and the counts beside it (02, A1)
 
--- wherever document 01 tells a fingerprint, the program tells v
-abbrev pub TellsAlways : (Setup → ℕ) → Program → Type 0
-TellsAlways v p = Throughout p (λ u es. (c : Call) (w : ℕ) → paper u es c .told ≡ Value w → p u es c .told ≡ Value (v u))
+-- wherever document 01 tells a fingerprint, of the values that the program tells number i is v: the fingerprint, the brighter pixels, the darker ones
+abbrev pub TellsAlways : ℕ → (Setup → ℕ) → Program → Type 0
+TellsAlways i v p = Throughout p (λ u es. (c : Call) (w b k : ℕ) → paper u es c .told ≡ Value w b k → getD (toldValues (p u es c .told)) i 0 ≡ v u)
+
+-- one that tells the two counts in each other's place
+abbrev pub Exchanges : Program → Type 0
+Exchanges p = Throughout p (λ u es. (c : Call) (w b k : ℕ) → paper u es c .told ≡ Value w b k → p u es c .told ≡ Value w k b)
 
 -- wherever document 01 has video in a container and no ID is lent, so that byte 5 is the value of the first field, byte 5 of the program's container is v
 abbrev pub ShowsAlways : (Setup → ℕ) → Program → Type 0

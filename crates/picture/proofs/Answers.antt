@@ -14,10 +14,10 @@ use Rattle.picture.specs.declared.Told.{Told}
 use Rattle.picture.specs.declared.Told.the-variants.{Open, Nothing, Value}
 use Rattle.picture.specs.declared.Picture.{Picture}
 use Rattle.picture.specs.declared.Scanned.{Scanned}
-use Rattle.picture.specs.Fields.{fingerprintOf, toldValues, toldEnded}
+use Rattle.picture.specs.Fields.{compared, toldFingerprint, toldEnded}
 use Rattle.picture.specs.Lines.{interlaced, monitored, dueLine, orderNumber, lineNumber}
 use Rattle.laws.specs.Video.{videoValues}
-use Rattle.picture.specs.Pictures.{isReady, numberAt, lineOf, taken, fieldEnded, shownOne, shownTwo}
+use Rattle.picture.specs.Pictures.{numberAt, lineOf, taken, fieldEnded, shownOne, shownTwo}
 use Rattle.picture.specs.History.{fields, fieldTells, nextField, nextLine, startsFrame, frameShows, frameGave, Waiting, isWaiting, lineTells, takes, linesAfter, toldAfter, numberSaid, toldSaid}
 use Rattle.picture.proofs.Steps.{Holds, next-monitored, due-is, line-right}
 
@@ -43,11 +43,11 @@ module _ (f : ℕ) (listed : f < 8) (ls : List (List ℕ)) (w : Waiting) (p : Pi
   unfolding numberSaid
   never-1 e = number-not-1 f (nextLine f ls) (isWaiting w) n (length b) (sym (line-right f listed ls w p o n b .number) ∙ e)
 
-  -- the line that ends a field with two before it tells the fingerprint of that field and the second before it
+  -- the line that ends a field with two before it tells the fingerprint and the counts of that field and the second before it
   pub tells-by-second :
       (x y z : List ℕ) (fs : List (List ℕ)) → takes f n (lineOf p f n b .number) ≡ true
       → length (pixels (rowOf f) b ∷ ls) % 16 ≡ 0 → fields (pixels (rowOf f) b ∷ ls) ≡ x ∷ y ∷ z ∷ fs
-      → lineOf p f n b .told ≡ Value (fingerprintOf x z)
+      → lineOf p f n b .told ≡ compared x z
   unfolding toldSaid toldAfter linesAfter lineTells fieldTells
   tells-by-second x y z fs t k e =
       let l = line-right f listed ls w p o n b in
@@ -69,31 +69,31 @@ module _ (f : ℕ) (listed : f < 8) (ls : List (List ℕ)) (w : Waiting) (p : Pi
       P x = x .picture ≡ p
 
 -- a frame of two fields gives a fingerprint for both of them or for none
-pub all-or-none : (fs : List (List ℕ)) → length fs % 2 ≡ 0 → length (toldValues (fieldTells (drop 1 fs))) ≡ length (toldValues (fieldTells fs))
-unfolding fieldTells toldValues
+pub all-or-none : (fs : List (List ℕ)) → length fs % 2 ≡ 0 → length (toldFingerprint (fieldTells (drop 1 fs))) ≡ length (toldFingerprint (fieldTells fs))
+unfolding fieldTells compared toldFingerprint
 all-or-none [] e = refl
 all-or-none (a ∷ []) e = absurd (let z : ⊥ = omega arith in z)
 all-or-none (a ∷ b ∷ []) e = refl
 all-or-none (a ∷ b ∷ c ∷ []) e = absurd (let z : ⊥ = omega arith in z)
 all-or-none (a ∷ b ∷ c ∷ d ∷ fs) e = refl
 
-one-shown : (t : Told) → videoValues (shownOne t) ≡ toldValues t
-unfolding videoValues shownOne toldValues
+one-shown : (t : Told) → videoValues (shownOne t) ≡ toldFingerprint t
+unfolding videoValues shownOne toldFingerprint
 one-shown Open = refl
 one-shown Nothing = refl
-one-shown (Value a) = refl
+one-shown (Value v b k) = refl
 
-two-shown : (t u : Told) → length (toldValues t) ≡ length (toldValues u) → videoValues (shownTwo t u) ≡ toldValues t ++ toldValues u
-unfolding videoValues shownTwo toldValues
+two-shown : (t u : Told) → length (toldFingerprint t) ≡ length (toldFingerprint u) → videoValues (shownTwo t u) ≡ toldFingerprint t ++ toldFingerprint u
+unfolding videoValues shownTwo toldFingerprint
 two-shown Open Open e = refl
 two-shown Open Nothing e = refl
-two-shown Open (Value b) e = absurd (let z : ⊥ = omega arith in z)
+two-shown Open (Value v b k) e = absurd (let z : ⊥ = omega arith in z)
 two-shown Nothing Open e = refl
 two-shown Nothing Nothing e = refl
-two-shown Nothing (Value b) e = absurd (let z : ⊥ = omega arith in z)
-two-shown (Value a) Open e = absurd (let z : ⊥ = omega arith in z)
-two-shown (Value a) Nothing e = absurd (let z : ⊥ = omega arith in z)
-two-shown (Value a) (Value b) e = refl
+two-shown Nothing (Value v b k) e = absurd (let z : ⊥ = omega arith in z)
+two-shown (Value v b k) Open e = absurd (let z : ⊥ = omega arith in z)
+two-shown (Value v b k) Nothing e = absurd (let z : ⊥ = omega arith in z)
+two-shown (Value v b k) (Value v′ b′ k′) e = refl
 
 -- so a frame that has ended shows every fingerprint that its fields gave
 pub shows-all : (f : ℕ) (ls : List (List ℕ)) → startsFrame f ls ≡ true → videoValues (frameShows f (fields ls)) ≡ frameGave f (fields ls)
@@ -102,7 +102,7 @@ shows-all f ls s = go (interlaced (rowOf f)) (both (eqb (cond (interlaced (rowOf
   where
     go : (t : Bool) → eqb (cond t (length (fields ls) % 2 + 1) 1) 1 ≡ true
         → videoValues (cond t (shownTwo (fieldTells (drop 1 (fields ls))) (fieldTells (fields ls))) (shownOne (fieldTells (fields ls))))
-        ≡ cond t (toldValues (fieldTells (drop 1 (fields ls))) ++ toldValues (fieldTells (fields ls))) (toldValues (fieldTells (fields ls)))
+        ≡ cond t (toldFingerprint (fieldTells (drop 1 (fields ls))) ++ toldFingerprint (fieldTells (fields ls))) (toldFingerprint (fieldTells (fields ls)))
     go true e = two-shown _ _ (all-or-none (fields ls) (omega (arith, eqb-true (length (fields ls) % 2 + 1) 1 e)))
     go false e = one-shown (fieldTells (fields ls))
 
@@ -122,7 +122,7 @@ refused-same p f n b =
     P x = (x .number ≡ 0 → ⊥) → x .picture ≡ p
 
 field-ends : (fs : List (List ℕ)) → toldEnded (fieldTells fs) ≡ true
-unfolding fieldTells toldEnded
+unfolding fieldTells compared toldEnded
 field-ends [] = refl
 field-ends (a ∷ []) = refl
 field-ends (a ∷ b ∷ []) = refl

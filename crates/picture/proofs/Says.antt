@@ -1,8 +1,8 @@
 -- What Line answers and what a frame shows, as document 01's numbers and values.
 use Prim.Native.Nat.{ℕ}
 use mathlib.Core.Path.{_≡_, refl, sym, _∙_}
-use mathlib.Core.Bool.{Bool, true, false, cond, _&&_, not, true≢false}
-use mathlib.Core.List.{List, [], _∷_}
+use mathlib.Core.Bool.{Bool, true, false, cond, not, true≢false}
+use mathlib.Core.List.{List, []}
 use borrow.Author.Tests.{eqb-true}
 use lib.Dec.{ltb, eqb}
 use lib.ListN.{length}
@@ -15,20 +15,20 @@ use Rattle.picture.specs.declared.Told.{Told}
 use Rattle.picture.specs.declared.Picture.{Picture}
 use Rattle.picture.specs.declared.Scanned.{Scanned}
 use Rattle.picture.specs.declared.Handed.{Handed}
-use Rattle.picture.specs.Lines.{interlaced, dueLine}
-use Rattle.picture.specs.Fields.{fingerprintOf, toldBy, toldValues, toldEnded, Says, saysOf}
-use Rattle.picture.specs.Pictures.{withRow, fieldEnded, taken, untouched, numberAt, lineOf, handedOut, endsField, fieldGives, lineSays, handedValues}
+use Rattle.picture.specs.Lines.{dueLine}
+use Rattle.picture.specs.Fields.{compared, comparedValues, toldBy, toldValues, toldEnded, Says, saysOf}
+use Rattle.picture.specs.Pictures.{withRow, fieldEnded, taken, numberAt, lineOf, handedOut, endsField, fieldGives, lineSays, handedValues}
 
 -- the end of a field
 told-ended : (held : ℕ) (field older : List ℕ) → toldEnded (toldBy held field older) ≡ true
-unfolding toldBy toldEnded
+unfolding toldBy compared toldEnded
 told-ended held field older = chosen (λ (t : Told). toldEnded t ≡ true) (ltb held 2) _ _ (λ _. refl) (λ _. refl)
 
-told-values : (held : ℕ) (field older : List ℕ) → toldValues (toldBy held field older) ≡ cond (ltb held 2) [] (fingerprintOf field older ∷ [])
-unfolding toldBy toldValues
+told-values : (held : ℕ) (field older : List ℕ) → toldValues (toldBy held field older) ≡ cond (ltb held 2) [] (comparedValues field older)
+unfolding toldBy compared comparedValues toldValues
 told-values held field older = go (ltb held 2) refl
   where
-    go : (t : Bool) → ltb held 2 ≡ t → toldValues (toldBy held field older) ≡ cond (ltb held 2) [] (fingerprintOf field older ∷ [])
+    go : (t : Bool) → ltb held 2 ≡ t → toldValues (toldBy held field older) ≡ cond (ltb held 2) [] (comparedValues field older)
     go true e = rw e refl
     go false e = rw e refl
 

@@ -8,10 +8,10 @@ use lib.ListN.{length, take, drop}
 use Rattle.sampling.specs.Formats.{rowOf}
 use Rattle.sampling.specs.Samples.{pixels}
 use Rattle.picture.specs.declared.Told.{Told}
-use Rattle.picture.specs.declared.Told.the-variants.{Open, Nothing, Value}
+use Rattle.picture.specs.declared.Told.the-variants.{Open, Nothing}
 use Rattle.laws.specs.declared.Video.{Video}
 use Rattle.laws.specs.declared.Video.the-variants.{Absent}
-use Rattle.picture.specs.Fields.{fingerprintOf, toldValues}
+use Rattle.picture.specs.Fields.{compared, toldFingerprint}
 use Rattle.picture.specs.Lines.{interlaced, monitored, dueLine, lineNumber}
 use Rattle.picture.specs.Pictures.{shownOne, shownTwo}
 
@@ -32,7 +32,7 @@ unfoldable pub fieldTells : List (List ℕ) → Told
 fieldTells [] = Nothing
 fieldTells (f ∷ []) = Nothing
 fieldTells (f ∷ g ∷ []) = Nothing
-fieldTells (f ∷ g ∷ h ∷ fs) = Value (fingerprintOf f h)
+fieldTells (f ∷ g ∷ h ∷ fs) = compared f h
 
 -- what the newest line tells: "The line that ends a field also tells its fingerprint, or that it has none"
 unfoldable pub lineTells : List (List ℕ) → Told
@@ -59,7 +59,7 @@ frameShows f fs = cond (interlaced (rowOf f)) (shownTwo (fieldTells (drop 1 fs))
 
 -- the fingerprints that its fields gave
 unfoldable pub frameGave : ℕ → List (List ℕ) → List ℕ
-frameGave f fs = cond (interlaced (rowOf f)) (toldValues (fieldTells (drop 1 fs)) ++ toldValues (fieldTells fs)) (toldValues (fieldTells fs))
+frameGave f fs = cond (interlaced (rowOf f)) (toldFingerprint (fieldTells (drop 1 fs)) ++ toldFingerprint (fieldTells fs)) (toldFingerprint (fieldTells fs))
 
 -- the frame that waits to be packed
 pub data Waiting : Type 0 where

@@ -1,7 +1,7 @@
 -- A picture by value, and what each call makes of it (01, "Video").
 use Prim.Native.Nat.{ℕ, _+_, _*_}
 use mathlib.Core.Bool.{Bool, true, false, cond, _&&_, not}
-use mathlib.Core.List.{List, [], _∷_, _++_}
+use mathlib.Core.List.{List, [], _++_}
 use lib.Dec.{ltb, eqb}
 use lib.ListN.{length, take, drop, replicate}
 use Rattle.sampling.specs.Formats.{rowOf}
@@ -15,21 +15,21 @@ use Rattle.picture.specs.declared.Picture.{Picture}
 use Rattle.picture.specs.declared.Scanned.{Scanned}
 use Rattle.picture.specs.declared.Handed.{Handed}
 use Rattle.laws.specs.Video.{videoValues}
-use Rattle.picture.specs.Fields.{fingerprintOf, toldBy, heldAfter, Says}
+use Rattle.picture.specs.Fields.{comparedValues, toldBy, heldAfter, Says}
 use Rattle.picture.specs.Lines.{interlaced, dueLine, judgedNumber}
 
 -- "Video is present exactly when the frame gave a fingerprint for each of its fields"
 unfoldable pub shownOne : Told → Video
 shownOne Open = Absent
 shownOne Nothing = Absent
-shownOne (Value a) = One a
+shownOne (Value v b k) = One v
 
 unfoldable pub shownTwo : Told → Told → Video
 shownTwo Open u = Absent
 shownTwo Nothing u = Absent
-shownTwo (Value a) Open = Absent
-shownTwo (Value a) Nothing = Absent
-shownTwo (Value a) (Value b) = Two a b
+shownTwo (Value v b k) Open = Absent
+shownTwo (Value v b k) Nothing = Absent
+shownTwo (Value v b k) (Value v′ b′ k′) = Two v v′
 
 -- nothing is held, and field 1 is expected; a frame that waits to be packed is given
 abbrev pub emptyWith : Bool → Video → Picture
@@ -134,10 +134,9 @@ unfoldable pub endsField : Picture → ℕ → ℕ → List ℕ → Bool
 endsField p f n line =
     eqb (numberAt p f n (length line)) 0 && eqb n (dueLine (rowOf f) (p .frame .field) (p .row)) && not (ltb (p .row) 15)
 
--- the fingerprint of the field being filled, once this line is its last: "The first two fields .. give no fingerprint"
+-- what the field being filled gives, once this line is its last: "The first two fields .. give no fingerprint"
 unfoldable pub fieldGives : Picture → ℕ → List ℕ → List ℕ
-fieldGives p f line =
-    cond (ltb (p .held) 2) [] (fingerprintOf (withRow (p .filling) (p .row) (pixels (rowOf f) line)) (p .older) ∷ [])
+fieldGives p f line = cond (ltb (p .held) 2) [] (comparedValues (withRow (p .filling) (p .row) (pixels (rowOf f) line)) (p .older))
 
 unfoldable pub lineSays : Picture → ℕ → ℕ → List ℕ → Says
 lineSays p f n line = record {

@@ -1,38 +1,62 @@
-// A field against the second preceding one (000, 5.2.3).
+// A field against the second preceding one (02, A1; 000, 5.2.3).
 ghost use mathlib.Core.Path.{_≡_};
+ghost use mathlib.Core.Bool.{cond};
+ghost use Prim.Native.Nat.{_+_, _/_, _<_};
 ghost use lib.ListN.{length};
-ghost use Rattle.picture.specs.Fields.{changedBy, changesIn, fingerprintOf, toldBy, heldAfter};
+ghost use Rattle.picture.specs.Fields as fields;
+ghost use Rattle.picture.specs.Fields.{isBrighter, isDarker, brighterIn, darkerIn, toldBy, heldAfter};
 use crate::Told;
 
-// Whether two bytes differ by 32 or more.
-fn changed(x: u8, y: u8) -> bool
-    ensures { λ r. ⌜ r ≡ changedBy x y ⌝ }
-{
-    let apart = if x < y { y - x } else { x - y };
-    32 <= apart
+// The pixels that went brighter by 32 or more, and those that went darker.
+struct Counts {
+    brighter: u16,
+    darker: u16,
 }
 
-// In how many places two fields differ so.
-fn changes(f: &[u8; 960], g: &[u8; 960]) -> u32
-    requires { ⌜ (length (now f) ≡ 960) × (length (now g) ≡ 960) ⌝ }
-    ensures { λ r. ⌜ r ≡ changesIn (now (f .entry)) (now (g .entry)) ⌝ }
+// Current minus older.
+fn difference(current: u8, older: u8) -> i16
+    ensures { λ r. ⌜ r ≡ fields.difference current older ⌝ }
 {
-    let mut n: u32 = 0;
+    current as i16 - older as i16
+}
+
+fn is_brighter(difference: i16) -> bool
+    ensures { λ r. ⌜ r ≡ isBrighter difference ⌝ }
+{
+    32 <= difference
+}
+
+fn is_darker(difference: i16) -> bool
+    ensures { λ r. ⌜ r ≡ isDarker difference ⌝ }
+{
+    difference <= -32
+}
+
+// A count with one pixel more, where it is one.
+fn with_one(n: u16, counts: bool) -> u16
+    requires { ⌜ n < 960 ⌝ }
+    ensures { λ r. ⌜ r ≡ n + cond counts 1 0 ⌝ }
+{
+    if counts { n + 1 } else { n }
+}
+
+fn counted(field: &[u8; 960], older: &[u8; 960]) -> Counts
+    requires { ⌜ (length (now field) ≡ 960) × (length (now older) ≡ 960) ⌝ }
+    ensures { λ r. ⌜ (r .brighter ≡ brighterIn (now (field .entry)) (now (older .entry))) × (r .darker ≡ darkerIn (now (field .entry)) (now (older .entry))) ⌝ }
+{
+    let mut brighter: u16 = 0;
+    let mut darker: u16 = 0;
     let mut i: usize = 0;
     while i < 960 {
-        if changed(f[i], g[i]) {
-            n += 1;
-        }
+        let d = difference(field[i], older[i]);
+        brighter = with_one(brighter, is_brighter(d));
+        darker = with_one(darker, is_darker(d));
         i += 1;
     }
-    n
-}
-
-fn fingerprint(f: &[u8; 960], g: &[u8; 960]) -> u8
-    requires { ⌜ (length (now f) ≡ 960) × (length (now g) ≡ 960) ⌝ }
-    ensures { λ r. ⌜ r ≡ fingerprintOf (now (f .entry)) (now (g .entry)) ⌝ }
-{
-    (changes(f, g) / 4) as u8
+    Counts {
+        brighter: brighter,
+        darker: darker,
+    }
 }
 
 // What the end of the field tells, with held fields before it.
@@ -43,7 +67,12 @@ pub(crate) fn told(held: u8, field: &[u8; 960], older: &[u8; 960]) -> Told
     if held < 2 {
         return Told::Nothing;
     }
-    Told::Value(fingerprint(field, older))
+    let c = counted(field, older);
+    Told::Value {
+        fingerprint: ((c.brighter + c.darker) / 4) as u8,
+        brighter: c.brighter,
+        darker: c.darker,
+    }
 }
 
 // How many fields are held once one more has ended: two are enough.

@@ -11,11 +11,15 @@ ghost use Rattle.picture.specs.Fields.{saysOf};
 ghost use Rattle.laws.specs.Video.{videoValues};
 use laws::Video;
 
-// What a line tells: the field goes on, or it ended with no fingerprint, or with this one.
+// What a line tells: the field goes on, or it ended with no fingerprint, or with this one and so many pixels brighter and darker by 32 or more.
 pub enum Told {
     Open,
     Nothing,
-    Value(u8),
+    Value {
+        fingerprint: u8,
+        brighter: u16,
+        darker: u16,
+    },
 }
 
 // The frame being filled, by its field (1 or 2) and what its field 1 told, and the frame that waits to be packed, by what it shows.
@@ -127,7 +131,7 @@ fn shown_one(told: Told) -> Video
     match told {
         Told::Open => Video::Absent,
         Told::Nothing => Video::Absent,
-        Told::Value(a) => Video::One(a),
+        Told::Value { fingerprint, .. } => Video::One(fingerprint),
     }
 }
 
@@ -138,10 +142,10 @@ fn shown_two(first: Told, second: Told) -> Video
     match first {
         Told::Open => Video::Absent,
         Told::Nothing => Video::Absent,
-        Told::Value(a) => match second {
+        Told::Value { fingerprint: a, .. } => match second {
             Told::Open => Video::Absent,
             Told::Nothing => Video::Absent,
-            Told::Value(b) => Video::Two(a, b),
+            Told::Value { fingerprint: b, .. } => Video::Two(a, b),
         },
     }
 }

@@ -1,7 +1,7 @@
 // make/script.rs: a feed in the making, with a session of its own that tells what the next call will meet.
 
 use super::floats;
-use super::picture::{self, Liveliness};
+use super::picture::{self, Motion};
 use super::random::Random;
 use super::sound::Source;
 use crate::container::{ID_SIZE, MOST_FINGERPRINTS};
@@ -19,7 +19,7 @@ pub struct Script {
     pub desk: Desk,
     /// One for each fingerprint, new with every setup and audio restart, as the filters are.
     sources: Vec<Source>,
-    liveliness: Liveliness,
+    motion: Motion,
 }
 
 /// Every pair of format and rate that setup takes.
@@ -31,8 +31,8 @@ pub fn pairs() -> Vec<(u8, u8)> {
 
 impl Script {
     pub fn new(mut random: Random) -> Script {
-        let liveliness = Liveliness::new(&mut random);
-        Script { feed: Vec::new(), random, packs: 0, desk: Desk::default(), sources: Vec::new(), liveliness }
+        let motion = Motion::lively(&mut random, 50);
+        Script { feed: Vec::new(), random, packs: 0, desk: Desk::default(), sources: Vec::new(), motion }
     }
 
     pub fn running(&self) -> Option<&Running> {
@@ -71,11 +71,12 @@ impl Script {
     /// The line that the session waits for.
     pub fn expected_line(&mut self) {
         let Some(running) = &self.desk.session.0 else { return };
-        if running.picture.rows().len() % ROWS_PER_FIELD == 0 {
-            self.liveliness = Liveliness::new(&mut self.random);
+        let rows = running.picture.rows();
+        if rows.len() % ROWS_PER_FIELD == 0 {
+            self.motion = Motion::new(&mut self.random, rows);
         }
         let number = running.picture.expected_line(running.format);
-        let line = picture::next_line(&mut self.random, &self.liveliness, running.format, &running.picture);
+        let line = picture::next_line(&mut self.random, self.motion, running.format, rows);
         self.line(number, &line);
     }
 

@@ -13,16 +13,13 @@ hand-out-requires c κs = search needs
 value-requires : tie.Need-value-requires
 value-requires c κs = search needs
 
-cast-t13 : tie.Need-cast-t13
-cast-t13 c = search needs
-
-add-t14 : tie.Need-add-t14
-add-t14 c = search needs
+add-t13 : tie.Need-add-t13
+add-t13 c = search needs
 
 returns : tie.Need-returns
 unfolding stepOf
-returns c = simp (c .value .ensures, c .before .before .before .hand-out .ensures .0, c .before .before .before .before .before .line .ensures .0)
+returns c = simp (c .value .ensures .0, c .before .before .before .hand-out .ensures .0, c .before .before .before .before .before .line .ensures .0)
 
 pub step-spec : {M : Type 1} → statement M
 step-spec =
-    tie.close (tie.spec line-requires hand-out-requires value-requires cast-t13 add-t14 returns)
+    tie.close (tie.spec line-requires hand-out-requires value-requires add-t13 returns)

@@ -22,14 +22,8 @@ put-requires c κs = search needs
 enum-known-told : tie.Need-enum-known-told
 enum-known-told c = search needs
 
-slice-aggregate-put-item : tie.Need-slice-aggregate-put-item
-slice-aggregate-put-item c = search needs
-
-cast-put-item : tie.Need-cast-put-item
-cast-put-item c = search needs
-
-put-item-requires : tie.Need-put-item-requires
-put-item-requires c κs = search needs
+put-field-requires : tie.Need-put-field-requires
+put-field-requires c κs = search needs
 
 returns : tie.Need-returns
 returns c = put-as (ap toldText (sym (c .enum-told .given .1))) (put-none _ _ (omega arith))
@@ -44,7 +38,7 @@ same-length-2 : tie.Need-same-length-2
 same-length-2 c = search needs
 
 returns-3 : tie.Need-returns-3
-returns-3 c = put-as (ap toldText (sym (c .before .before .before .before .before .before .told .given .1))) (c .before .before .put-item .ensures)
+returns-3 c = put-as (ap toldText (sym (c .before .before .before .before .before .told .given .1))) (c .before .before .put-field .ensures)
 
 pub put-told-spec : {M : Type 1} → statement M
 put-told-spec =
@@ -55,9 +49,7 @@ put-told-spec =
     slice-aggregate-put
     put-requires
     enum-known-told
-    slice-aggregate-put-item
-    cast-put-item
-    put-item-requires
+    put-field-requires
     returns
     same-length
     returns-2
