@@ -74,8 +74,8 @@ one-fits rate Open h = tt
 one-fits rate Nothing h = tt
 one-fits rate (Value v b k) h = omega (arith, h .0, h .1)
 
-two-fit : (rate : ℕ) (t t′ : Told) → Sums t → Sums t′ → rates.twoFields rate ≡ true → ShownFits rate (shownTwo t t′)
-unfolding shownTwo
+two-fit : (rate : ℕ) (t t′ : Told) → Sums t → Sums t′ → rates.twoFields rate ≡ true → ShownFits rate (shownTwo (shownOne t) t′)
+unfolding shownOne shownTwo
 two-fit rate Open t′ h h′ e = tt
 two-fit rate Nothing t′ h h′ e = tt
 two-fit rate (Value v b k) Open h h′ e = tt

@@ -83,8 +83,8 @@ one-shown Open = refl
 one-shown Nothing = refl
 one-shown (Value v b k) = refl
 
-two-shown : (t u : Told) → length (toldFingerprint t) ≡ length (toldFingerprint u) → videoValues (shownTwo t u) ≡ toldFingerprint t ++ toldFingerprint u
-unfolding videoValues shownTwo toldFingerprint
+two-shown : (t u : Told) → length (toldFingerprint t) ≡ length (toldFingerprint u) → videoValues (shownTwo (shownOne t) u) ≡ toldFingerprint t ++ toldFingerprint u
+unfolding videoValues shownOne shownTwo toldFingerprint
 two-shown Open Open e = refl
 two-shown Open Nothing e = refl
 two-shown Open (Value v b k) e = absurd (let z : ⊥ = omega arith in z)
@@ -101,7 +101,7 @@ unfolding startsFrame nextField frameShows frameGave
 shows-all f ls s = go (interlaced (rowOf f)) (both (eqb (cond (interlaced (rowOf f)) (length (fields ls) % 2 + 1) 1) 1) _ s .0)
   where
     go : (t : Bool) → eqb (cond t (length (fields ls) % 2 + 1) 1) 1 ≡ true
-        → videoValues (cond t (shownTwo (fieldTells (drop 1 (fields ls))) (fieldTells (fields ls))) (shownOne (fieldTells (fields ls))))
+        → videoValues (cond t (shownTwo (shownOne (fieldTells (drop 1 (fields ls)))) (fieldTells (fields ls))) (shownOne (fieldTells (fields ls))))
         ≡ cond t (toldFingerprint (fieldTells (drop 1 (fields ls))) ++ toldFingerprint (fieldTells (fields ls))) (toldFingerprint (fieldTells (fields ls)))
     go true e = two-shown _ _ (all-or-none (fields ls) (omega (arith, eqb-true (length (fields ls) % 2 + 1) 1 e)))
     go false e = one-shown (fieldTells (fields ls))

@@ -11,7 +11,7 @@ use Rattle.sampling.specs.Formats.{rowOf}
 use Rattle.laws.specs.declared.Video.{Video}
 use Rattle.picture.specs.declared.Frame.{Frame}
 use Rattle.picture.specs.Lines.{interlaced}
-use Rattle.picture.specs.Pictures.{frameAfter}
+use Rattle.picture.specs.Pictures.{shownOne, frameAfter}
 use Rattle.picture.specs.History.{fields, fieldTells, nextField, startsFrame, frameShows, Waiting, no-frame, a-frame}
 
 -- the frame that waits, by the picture's own values
@@ -21,7 +21,7 @@ waitingOf false s = no-frame
 
 pub record Framed (f : ℕ) (fr : Frame) (ls : List (List ℕ)) (w : Waiting) : Type 0 where
   pub field : fr .field ≡ nextField f ls
-  pub first : nextField f ls ≡ 2 → fr .first ≡ fieldTells (fields ls)
+  pub first : nextField f ls ≡ 2 → fr .first ≡ shownOne (fieldTells (fields ls))
   pub waits : w ≡ waitingOf (fr .ready) (fr .shown)
   pub between : fr .ready ≡ true → startsFrame f ls ≡ true
 
@@ -76,7 +76,7 @@ module _ (f : ℕ) (fr : Frame) (ls : List (List ℕ)) (w : Waiting) (o : Framed
         let r : length (fields ls) % 2 ≡ 1 = omega arith in
         let q : fr .field ≡ 2 = o .field ∙ rw (e, r) refl in
         let p : suc (length (fields ls)) % 2 ≡ 0 = omega arith in
-        let t : fr .first ≡ fieldTells (fields ls) = o .first (rw (e, r) refl) in
+        let t : fr .first ≡ shownOne (fieldTells (fields ls)) = o .first (rw (e, r) refl) in
         rw (eq-eqb _ _ z, e, q, p) (record {
           field = rw (e, eq-eqb _ _ z, p) refl;
           first = rw (e, eq-eqb _ _ z, p) (λ x. absurd (omega arith));

@@ -55,7 +55,7 @@ startsFrame f ls = eqb (nextField f ls) 1 && eqb (length ls % 16) 0
 
 -- what the newest frame shows: "exactly when the frame gave a fingerprint for each of its fields"
 unfoldable pub frameShows : ℕ → List (List ℕ) → Video
-frameShows f fs = cond (interlaced (rowOf f)) (shownTwo (fieldTells (drop 1 fs)) (fieldTells fs)) (shownOne (fieldTells fs))
+frameShows f fs = cond (interlaced (rowOf f)) (shownTwo (shownOne (fieldTells (drop 1 fs))) (fieldTells fs)) (shownOne (fieldTells fs))
 
 -- the fingerprints that its fields gave
 unfoldable pub frameGave : ℕ → List (List ℕ) → List ℕ

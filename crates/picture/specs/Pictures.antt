@@ -24,12 +24,12 @@ shownOne Open = Absent
 shownOne Nothing = Absent
 shownOne (Value v b k) = One v
 
-unfoldable pub shownTwo : Told → Told → Video
-shownTwo Open u = Absent
-shownTwo Nothing u = Absent
-shownTwo (Value v b k) Open = Absent
-shownTwo (Value v b k) Nothing = Absent
-shownTwo (Value v b k) (Value v′ b′ k′) = Two v v′
+unfoldable pub shownTwo : Video → Told → Video
+shownTwo Absent t = Absent
+shownTwo (One v) Open = Absent
+shownTwo (One v) Nothing = Absent
+shownTwo (One v) (Value w b k) = Two v w
+shownTwo (Two v w) t = Absent
 
 -- nothing is held, and field 1 is expected; a frame that waits to be packed is given
 abbrev pub emptyWith : Bool → Video → Picture
@@ -39,7 +39,7 @@ emptyWith ready shown = record {
   filling = replicate 960 0;
   row = 0;
   held = 0;
-  frame = record { field = 1; first = Open; ready = ready; shown = shown };
+  frame = record { field = 1; first = Absent; ready = ready; shown = shown };
 }
 
 unfoldable pub freshPicture : Picture
@@ -71,9 +71,9 @@ unfoldable pub frameAfter : Frame → Told → Bool → Frame
 frameAfter f told two =
     cond two
     (cond (eqb (f .field) 1)
-    (record { field = 2; first = told; ready = false; shown = Absent })
-    (record { field = 1; first = Open; ready = true; shown = shownTwo (f .first) told }))
-    (record { field = 1; first = Open; ready = true; shown = shownOne told })
+    (record { field = 2; first = shownOne told; ready = false; shown = Absent })
+    (record { field = 1; first = Absent; ready = true; shown = shownTwo (f .first) told }))
+    (record { field = 1; first = Absent; ready = true; shown = shownOne told })
 
 -- row k of a field is put in its place
 unfoldable pub withRow : List ℕ → ℕ → List ℕ → List ℕ

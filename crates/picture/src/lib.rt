@@ -22,10 +22,10 @@ pub enum Told {
     },
 }
 
-// The frame being filled, by its field (1 or 2) and what its field 1 told, and the frame that waits to be packed, by what it shows.
+// The frame being filled, by its field (1 or 2) and what its field 1 shows, and the frame that waits to be packed, by what it shows.
 pub struct Frame {
     field: u8,
-    first: Told,
+    first: Video,
     ready: bool,
     shown: Video,
 }
@@ -66,7 +66,7 @@ fn empty_with(ready: bool, shown: Video) -> Picture
         held: 0,
         frame: Frame {
             field: 1,
-            first: Told::Open,
+            first: Video::Absent,
             ready: ready,
             shown: shown,
         },
@@ -135,18 +135,18 @@ fn shown_one(told: Told) -> Video
     }
 }
 
-// What a frame of two fields shows.
-fn shown_two(first: Told, second: Told) -> Video
+// What a frame of two fields shows, of which the first shows this and the second told that.
+fn shown_two(first: Video, second: Told) -> Video
     ensures { λ r. ⌜ r ≡ shownTwo first second ⌝ }
 {
     match first {
-        Told::Open => Video::Absent,
-        Told::Nothing => Video::Absent,
-        Told::Value { fingerprint: a, .. } => match second {
+        Video::Absent => Video::Absent,
+        Video::One(a) => match second {
             Told::Open => Video::Absent,
             Told::Nothing => Video::Absent,
             Told::Value { fingerprint: b, .. } => Video::Two(a, b),
         },
+        Video::Two(a, b) => Video::Absent,
     }
 }
 
@@ -159,21 +159,21 @@ fn frame_after(f: Frame, told: Told, two: bool) -> Frame
         if f.field == 1 {
             return Frame {
                 field: 2,
-                first: told,
+                first: shown_one(told),
                 ready: false,
                 shown: Video::Absent,
             };
         }
         return Frame {
             field: 1,
-            first: Told::Open,
+            first: Video::Absent,
             ready: true,
             shown: shown_two(first, told),
         };
     }
     Frame {
         field: 1,
-        first: Told::Open,
+        first: Video::Absent,
         ready: true,
         shown: shown_one(told),
     }
