@@ -46,13 +46,13 @@ module _ (x y : ℕ) where
   brighter-is =
       by-order x y
       (λ l. rw (down l) (sym (lt-leb (y + 32) x (omega arith))))
-      (λ l. rw (up l) (same-test 32 (x - y) (y + 32) x (λ h. omega arith) (λ h. omega arith)))
+      (λ l. rw (up l) (same-test _ (x - y) (y + 32) x (λ h. omega arith) (λ h. omega arith)))
 
   pub darker-is : isDarker (difference x y) ≡ leb (x + 32) y
   unfolding isDarker
   darker-is =
       by-order x y
-      (λ l. rw (down l) (same-test 31 (y - suc x) (x + 32) y (λ h. omega arith) (λ h. omega arith)))
+      (λ l. rw (down l) (same-test _ (y - suc x) (x + 32) y (λ h. omega arith) (λ h. omega arith)))
       (λ l. rw (up l) (sym (lt-leb (x + 32) y (omega arith))))
 
   -- a changed pixel is counted once: brighter or darker, and never both
