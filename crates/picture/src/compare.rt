@@ -1,7 +1,7 @@
 // A field against the second preceding one (02, A1; 000, 5.2.3).
 ghost use mathlib.Core.Path.{_≡_};
 ghost use mathlib.Core.Bool.{cond};
-ghost use Prim.Native.Nat.{_+_, _/_, _<_};
+ghost use Prim.Native.Nat.{_+_, _<_};
 ghost use lib.ListN.{length};
 ghost use Rattle.picture.specs.Fields as fields;
 ghost use Rattle.picture.specs.Fields.{isBrighter, isDarker, brighterIn, darkerIn, toldBy, heldAfter};
@@ -20,6 +20,7 @@ fn difference(current: u8, older: u8) -> i16
     current as i16 - older as i16
 }
 
+// A change is 32 or more either way (02, A1).
 fn is_brighter(difference: i16) -> bool
     ensures { λ r. ⌜ r ≡ isBrighter difference ⌝ }
 {
