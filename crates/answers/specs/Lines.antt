@@ -20,11 +20,11 @@ use Rattle.answers.specs.Words.{setup, line, sound, instant, field, brig
 unfoldable pub numberLine : List ℕ → ℕ → List ℕ
 numberLine word number = item word number ++ newline
 
--- "where a field has a fingerprint: `line N field F brighter B darker K`" (A1)
+-- "where a field has a fingerprint: `line N field F brighter B darker K`"
 unfoldable pub fieldText : ℕ → ℕ → ℕ → List ℕ
 fieldText f b k = item field f ++ item brighter b ++ item darker k
 
--- "`field none` stays" (A1)
+-- "where the line ended a field ` field none`"
 abbrev pub toldText : Told → List ℕ
 toldText Open = []
 toldText Nothing = fieldNone

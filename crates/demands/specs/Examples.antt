@@ -70,7 +70,6 @@ unfoldable pub exchanging : Program
 exchanging = tellingBy (λ u. toldExchanged)
 
 -- v for each video value
-
 unfoldable pub shownAs : ℕ → Video → Video
 shownAs v Absent = Absent
 shownAs v (One a) = One v

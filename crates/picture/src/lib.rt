@@ -135,7 +135,7 @@ fn shown_one(told: Told) -> Video
     }
 }
 
-// What a frame of two fields shows, of which the first shows this and the second told that.
+// What a frame of two fields shows, of which the first shows this and the second told that. No field shows two values.
 fn shown_two(first: Video, second: Told) -> Video
     ensures { λ r. ⌜ r ≡ shownTwo first second ⌝ }
 {
