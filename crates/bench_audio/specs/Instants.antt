@@ -28,21 +28,21 @@ instantOf mix l =
     silent
 
 -- an instant is heard unless it is refused
-unfoldable pub instantIn : ℕ → Fingerprint → Instant → Fingerprint
-instantIn d f i = cond (eqb (instantNumber d f i) 0) (stepOf d f (floatValue i)) f
+unfoldable pub instantIn : ℕ → ℕ → Fingerprint → Instant → Fingerprint
+instantIn rule d f i = cond (eqb (instantNumber d f i) 0) (stepOf d f (floatValue rule i)) f
 
 -- the first n instants that values hold one after the other
-unfoldable pub instantsIn : ℕ → ℕ → List Float → Fingerprint → ℕ → Fingerprint
-instantsIn mix d l f zero = f
-instantsIn mix d l f (suc n) = instantIn d (instantsIn mix d l f n) (instantOf mix (drop (n * mix) l))
+unfoldable pub instantsIn : ℕ → ℕ → ℕ → List Float → Fingerprint → ℕ → Fingerprint
+instantsIn rule mix d l f zero = f
+instantsIn rule mix d l f (suc n) = instantIn rule d (instantsIn rule mix d l f n) (instantOf mix (drop (n * mix) l))
 
 -- and all of them
-unfoldable pub allIn : ℕ → ℕ → List Float → Fingerprint → Fingerprint
-allIn mix d l f = instantsIn mix d l f (length l / mix)
+unfoldable pub allIn : ℕ → ℕ → ℕ → List Float → Fingerprint → Fingerprint
+allIn rule mix d l f = instantsIn rule mix d l f (length l / mix)
 
-unfoldable pub floatTurns : ℕ → ℕ → List Float → ℕ → Turn
-floatTurns mix d l zero = record { fingerprint = freshOf mix; sum = 0 }
-floatTurns mix d l (suc n) = takenIn (floatTurns mix d l n .sum) (allIn mix d l (floatTurns mix d l n .fingerprint))
+unfoldable pub floatTurns : ℕ → ℕ → ℕ → List Float → ℕ → Turn
+floatTurns rule mix d l zero = record { fingerprint = freshOf mix; sum = 0 }
+floatTurns rule mix d l (suc n) = takenIn (floatTurns rule mix d l n .sum) (allIn rule mix d l (floatTurns rule mix d l n .fingerprint))
 
-unfoldable pub floatSumAfter : ℕ → ℕ → List Float → ℕ → ℕ
-floatSumAfter mix d l rounds = floatTurns mix d l rounds .sum
+unfoldable pub floatSumAfter : ℕ → ℕ → ℕ → List Float → ℕ → ℕ
+floatSumAfter rule mix d l rounds = floatTurns rule mix d l rounds .sum

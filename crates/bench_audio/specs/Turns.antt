@@ -21,12 +21,12 @@ fourOrFive f = cond (holdsOf f 5) 5 4
 unfoldable pub takenIn : ℕ → Fingerprint → Turn
 takenIn sum f = record { fingerprint = takeOf f (fourOrFive f) .fingerprint; sum = bytesIn sum (takeOf f (fourOrFive f) .bytes) }
 
-unfoldable pub nextTurn : ℕ → List ℕ → Turn → Turn
-nextTurn d block t = takenIn (t .sum) (heardOf d (t .fingerprint) block)
+unfoldable pub nextTurn : ℕ → ℕ → List ℕ → Turn → Turn
+nextTurn rule d block t = takenIn (t .sum) (heardOf rule d (t .fingerprint) block)
 
-unfoldable pub turns : ℕ → ℕ → List ℕ → ℕ → Turn
-turns mix d block zero = record { fingerprint = freshOf mix; sum = 0 }
-turns mix d block (suc n) = nextTurn d block (turns mix d block n)
+unfoldable pub turns : ℕ → ℕ → ℕ → List ℕ → ℕ → Turn
+turns rule mix d block zero = record { fingerprint = freshOf mix; sum = 0 }
+turns rule mix d block (suc n) = nextTurn rule d block (turns rule mix d block n)
 
-unfoldable pub sumAfter : ℕ → ℕ → List ℕ → ℕ → ℕ
-sumAfter mix d block rounds = turns mix d block rounds .sum
+unfoldable pub sumAfter : ℕ → ℕ → ℕ → List ℕ → ℕ → ℕ
+sumAfter rule mix d block rounds = turns rule mix d block rounds .sum

@@ -53,18 +53,18 @@ fn taken_in(sum: u64, f: Fingerprint) -> Turn
     }
 }
 
-fn block_in(t: Turn, d: u8, block: &[u8]) -> Turn
+fn block_in(t: Turn, rule: u8, d: u8, block: &[u8]) -> Turn
     requires { ⌜ t .sum < 4294967296 ⌝ }
-    ensures { λ r. ⌜ (r ≡ nextTurn d (now (block .entry)) t) × (r .sum < 4294967296) ⌝ }
+    ensures { λ r. ⌜ (r ≡ nextTurn rule d (now (block .entry)) t) × (r .sum < 4294967296) ⌝ }
 {
     let f = t.fingerprint;
-    taken_in(t.sum, fingerprint::heard(f, d, block))
+    taken_in(t.sum, fingerprint::heard(f, rule, d, block))
 }
 
 // A sum over the bytes taken in so many turns.
 #[no_mangle]
-pub extern "C" fn bench_audio(mix: u8, d: u8, block: &[u8], rounds: usize) -> u64
-    ensures { λ r. ⌜ r ≡ sumAfter mix d (now (block .entry)) rounds ⌝ }
+pub extern "C" fn bench_audio(rule: u8, mix: u8, d: u8, block: &[u8], rounds: usize) -> u64
+    ensures { λ r. ⌜ r ≡ sumAfter rule mix d (now (block .entry)) rounds ⌝ }
 {
     let f = fingerprint::fresh(mix);
     let mut t = Turn {
@@ -73,7 +73,7 @@ pub extern "C" fn bench_audio(mix: u8, d: u8, block: &[u8], rounds: usize) -> u6
     };
     let mut i = 0;
     while i < rounds {
-        t = block_in(t, d, block);
+        t = block_in(t, rule, d, block);
         i += 1;
     }
     t.sum
@@ -105,26 +105,26 @@ pub fn instant_of(mix: u8, values: &[f32]) -> Instant
 }
 
 // An instant is heard unless it is refused.
-fn instant_in(f: Fingerprint, d: u8, i: Instant) -> Fingerprint
-    ensures { λ r. ⌜ r ≡ instantIn d f i ⌝ }
+fn instant_in(f: Fingerprint, rule: u8, d: u8, i: Instant) -> Fingerprint
+    ensures { λ r. ⌜ r ≡ instantIn rule d f i ⌝ }
 {
     let number = fingerprint::instant_number(f, d, i);
     if number != 0 {
         return f;
     }
-    fingerprint::heard_instant(f, d, i)
+    fingerprint::heard_instant(f, rule, d, i)
 }
 
 // The first n instants that values hold one after the other.
-fn instants_in(f: Fingerprint, mix: u8, d: u8, values: &[f32], n: usize) -> Fingerprint
+fn instants_in(f: Fingerprint, rule: u8, mix: u8, d: u8, values: &[f32], n: usize) -> Fingerprint
     requires { ⌜ n * mix ≤ length (now values) ⌝ }
-    ensures { λ r. ⌜ r ≡ instantsIn mix d (now (values .entry)) f n ⌝ }
+    ensures { λ r. ⌜ r ≡ instantsIn rule mix d (now (values .entry)) f n ⌝ }
 {
     let mut g = f;
     let mut at = 0;
     let mut i = 0;
     while i < n {
-        g = instant_in(g, d, instant_of(mix, &values[at..]));
+        g = instant_in(g, rule, d, instant_of(mix, &values[at..]));
         at = at + (mix as usize);
         i += 1;
     }
@@ -132,19 +132,19 @@ fn instants_in(f: Fingerprint, mix: u8, d: u8, values: &[f32], n: usize) -> Fing
 }
 
 // And all of them.
-fn all_in(f: Fingerprint, mix: u8, d: u8, values: &[f32]) -> Fingerprint
-    ensures { λ r. ⌜ r ≡ allIn mix d (now (values .entry)) f ⌝ }
+fn all_in(f: Fingerprint, rule: u8, mix: u8, d: u8, values: &[f32]) -> Fingerprint
+    ensures { λ r. ⌜ r ≡ allIn rule mix d (now (values .entry)) f ⌝ }
 {
     if mix == 0 {
         return f;
     }
-    instants_in(f, mix, d, values, values.len() / (mix as usize))
+    instants_in(f, rule, mix, d, values, values.len() / (mix as usize))
 }
 
 // A sum over the bytes taken in so many turns, in each of which all instants are heard one by one.
 #[no_mangle]
-pub extern "C" fn bench_floats(mix: u8, d: u8, values: &[f32], rounds: usize) -> u64
-    ensures { λ r. ⌜ r ≡ floatSumAfter mix d (now (values .entry)) rounds ⌝ }
+pub extern "C" fn bench_floats(rule: u8, mix: u8, d: u8, values: &[f32], rounds: usize) -> u64
+    ensures { λ r. ⌜ r ≡ floatSumAfter rule mix d (now (values .entry)) rounds ⌝ }
 {
     let f = fingerprint::fresh(mix);
     let mut t = Turn {
@@ -154,7 +154,7 @@ pub extern "C" fn bench_floats(mix: u8, d: u8, values: &[f32], rounds: usize) ->
     let mut i = 0;
     while i < rounds {
         let g = t.fingerprint;
-        t = taken_in(t.sum, all_in(g, mix, d, values));
+        t = taken_in(t.sum, all_in(g, rule, mix, d, values));
         i += 1;
     }
     t.sum

@@ -9,9 +9,9 @@ use Rattle.session.specs.Session.{setupOf, lineOf, soundOf}
 use Rattle.session.specs.Packing.{packOf, packOut}
 use Rattle.bench_session.specs.declared.Turn.{Turn}
 
--- 1080i at 25 Hz, with two fingerprints of one mix type
-unfoldable pub begunWith : ℕ → Session
-begunWith mix = setupOf 3 5 (mix ∷ mix ∷ []) .session
+-- 1080i at 25 Hz by a mixing rule, with two fingerprints of one mix type
+unfoldable pub begunWith : ℕ → ℕ → Session
+begunWith rule mix = setupOf 3 5 rule (mix ∷ mix ∷ []) .session
 
 -- the first n lines of the field whose first is this one (01, Video: VStep 24)
 unfoldable pub fieldLines : Session → ℕ → List ℕ → ℕ → Session
@@ -55,16 +55,16 @@ frameOf extra blocks line block t = record {
 unfoldable pub lineAt : List ℕ → List ℕ → ℕ → List ℕ
 lineAt even odd i = cond (eqb (i % 2) 0) even odd
 
-unfoldable pub turns : ℕ → ℕ → ℕ → List ℕ → List ℕ → List ℕ → ℕ → Turn
-turns mix extra blocks even odd block zero = record { session = begunWith mix; sum = 0 }
-turns mix extra blocks even odd block (suc n) = frameOf extra blocks (lineAt even odd n) block (turns mix extra blocks even odd block n)
+unfoldable pub turns : ℕ → ℕ → ℕ → ℕ → List ℕ → List ℕ → List ℕ → ℕ → Turn
+turns rule mix extra blocks even odd block zero = record { session = begunWith rule mix; sum = 0 }
+turns rule mix extra blocks even odd block (suc n) = frameOf extra blocks (lineAt even odd n) block (turns rule mix extra blocks even odd block n)
 
-unfoldable pub sumAfter : ℕ → ℕ → ℕ → List ℕ → List ℕ → List ℕ → ℕ → ℕ
-sumAfter mix extra blocks even odd block rounds = turns mix extra blocks even odd block rounds .sum
+unfoldable pub sumAfter : ℕ → ℕ → ℕ → ℕ → List ℕ → List ℕ → List ℕ → ℕ → ℕ
+sumAfter rule mix extra blocks even odd block rounds = turns rule mix extra blocks even odd block rounds .sum
 
--- the second frame, ready: the first that has video values
+-- the second frame, ready, by rule 1: the first that has video values
 unfoldable pub secondWith : ℕ → ℕ → List ℕ → List ℕ → List ℕ → Session
-secondWith mix blocks even odd block = filledWith 0 blocks odd block (frameOf 0 blocks even block (record { session = begunWith mix; sum = 0 }) .session)
+secondWith mix blocks even odd block = filledWith 0 blocks odd block (frameOf 0 blocks even block (record { session = begunWith 1 mix; sum = 0 }) .session)
 
 -- one session's container, n times
 unfoldable pub packings : Session → ℕ → ℕ

@@ -37,9 +37,9 @@ instantFrame count mix line l t = record {
   sum = bytesIn (t .sum) (packOut (allHeard count mix l (bothFields line (t .session))) [] (replicate 254 0));
 }
 
-unfoldable pub instantTurns : List ℕ → ℕ → List ℕ → List Float → ℕ → Turn
-instantTurns mixes mix line l zero = record { session = setupOf 3 5 mixes .session; sum = 0 }
-instantTurns mixes mix line l (suc n) = instantFrame (length mixes) mix line l (instantTurns mixes mix line l n)
+unfoldable pub instantTurns : ℕ → List ℕ → ℕ → List ℕ → List Float → ℕ → Turn
+instantTurns rule mixes mix line l zero = record { session = setupOf 3 5 rule mixes .session; sum = 0 }
+instantTurns rule mixes mix line l (suc n) = instantFrame (length mixes) mix line l (instantTurns rule mixes mix line l n)
 
-unfoldable pub instantSumAfter : List ℕ → ℕ → List ℕ → List Float → ℕ → ℕ
-instantSumAfter mixes mix line l rounds = instantTurns mixes mix line l rounds .sum
+unfoldable pub instantSumAfter : ℕ → List ℕ → ℕ → List ℕ → List Float → ℕ → ℕ
+instantSumAfter rule mixes mix line l rounds = instantTurns rule mixes mix line l rounds .sum

@@ -146,6 +146,7 @@ fn frame_at(
 // A sum over the containers of so many frames.
 #[no_mangle]
 pub extern "C" fn bench_session(
+    rule: u8,
     mix: u8,
     rounds: usize,
     extra: usize,
@@ -154,10 +155,10 @@ pub extern "C" fn bench_session(
     odd: &[u8],
     block: &[u8],
 ) -> u64
-    ensures { λ r. ⌜ r ≡ sumAfter mix extra blocks (now (even .entry)) (now (odd .entry)) (now (block .entry)) rounds ⌝ }
+    ensures { λ r. ⌜ r ≡ sumAfter rule mix extra blocks (now (even .entry)) (now (odd .entry)) (now (block .entry)) rounds ⌝ }
 {
     let mixes = [mix, mix];
-    let begun = session::setup(3, 5, &mixes);
+    let begun = session::setup(3, 5, rule, &mixes);
     let s = begun.session;
     let mut t = Turn { session: s, sum: 0 };
     let mut i = 0;
@@ -181,7 +182,7 @@ pub extern "C" fn bench_pack(
     ensures { λ r. ⌜ r ≡ packings (secondWith mix blocks (now (even .entry)) (now (odd .entry)) (now (block .entry))) rounds ⌝ }
 {
     let mixes = [mix, mix];
-    let begun = session::setup(3, 5, &mixes);
+    let begun = session::setup(3, 5, 1, &mixes);
     let s = begun.session;
     let t = Turn { session: s, sum: 0 };
     let first = frame(t, 0, blocks, even, block);
@@ -208,15 +209,16 @@ fn instant_frame(t: Turn, count: usize, mix: u8, line: &[u8], values: &[f32]) ->
 // A sum over the containers of so many frames with instants for each fingerprint.
 #[no_mangle]
 pub extern "C" fn bench_instants(
+    rule: u8,
     mixes: &[u8],
     mix: u8,
     rounds: usize,
     line: &[u8],
     values: &[f32],
 ) -> u64
-    ensures { λ r. ⌜ r ≡ instantSumAfter (now (mixes .entry)) mix (now (line .entry)) (now (values .entry)) rounds ⌝ }
+    ensures { λ r. ⌜ r ≡ instantSumAfter rule (now (mixes .entry)) mix (now (line .entry)) (now (values .entry)) rounds ⌝ }
 {
-    let begun = session::setup(3, 5, mixes);
+    let begun = session::setup(3, 5, rule, mixes);
     let s = begun.session;
     let mut t = Turn { session: s, sum: 0 };
     let mut i = 0;

@@ -84,7 +84,7 @@ unfolding audioBytes
 audio-at-most m zero ps each h l = omega arith
 audio-at-most m (suc n) ps each h l = omega (arith, run-at-most m (suc n) ps each l (suc n) (omega arith), mul-le-mul-right {m = suc n} {n = 32} (2 + m) h)
 
-parts-length : (c : Contents)
+pub parts-length : (c : Contents)
     → length (partBytes c) ≡ length (idBytes (c .hasid) (c .id)) + length (videoBytes (c .video)) + length (audioBytes (c .count) (c .prints))
 unfolding partBytes
 parts-length c = simp length-append

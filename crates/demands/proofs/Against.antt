@@ -40,8 +40,8 @@ module _ (p : Program) (d : Demand2 p) where
   pub right-numbers : RightNumbers p
   right-numbers v cs c = ap (λ (x : Answer). x .number) (meets v cs c)
 
-  pub follows : {rate : ℕ} {mixes : List ℕ} → accepted (hd rate mixes) ≡ true → Follows rate mixes p
-  follows {rate} {mixes} a = record { accepts = a; numbers = right-numbers (hd rate mixes) }
+  pub follows : {rule rate : ℕ} {mixes : List ℕ} → accepted (hd rule rate mixes) ≡ true → Follows rule rate mixes p
+  follows {rule} {rate} {mixes} a = record { accepts = a; numbers = right-numbers (hd rule rate mixes) }
 
   -- demand 2 has demand 3 in it: document 01's bits are right
   pub bits-too : Demand3 p
@@ -64,7 +64,7 @@ module _ (p : Program) (d : Demand2 p) where
           ap readBack a ∙ said-back u (listed u is-accepted) (transcript p u cs) [] room bytes-nil (sym (ap (λ (x : Answer). x .number) a) ∙ z)
 
 -- and a program that gives all of document 01's numbers gives them in the run
-pub followed : (p : Program) → RightNumbers p → Follows 3 (monos 1) p
+pub followed : (p : Program) → RightNumbers p → Follows 1 3 (monos 1) p
 followed p n = record { accepts = is-accepted; numbers = n u }
 
 -- what is packed was set up
@@ -105,7 +105,7 @@ module _ (p : Program) where
   newest-packed cs z = rw (eq-eqb (p u (transcript p u cs) (pack [] room) .number) 0 z) refl
 
 -- "one that works until the first container and then repeats it", while its numbers are right
-module _ (p : Program) (r : Repeats p) (g : Follows 3 (monos 1) p) where
+module _ (p : Program) (r : Repeats p) (g : Follows 1 3 (monos 1) p) where
   abbrev pub answer : List Call → Answer
   answer cs = p u (transcript p u cs) (pack [] room)
 

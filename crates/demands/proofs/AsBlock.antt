@@ -90,19 +90,19 @@ module _ (i : Instant) (ws : List ℕ) (o : AllOver (valuesIn i) ws) where
   size : length (blockOf ws) ≡ 2 * length (valuesIn i)
   size = length-block ws ∙ ap (_*_ 2) (sym (as-many o))
 
-  same-value : floatValue i ≡ instantValue (kindOf i) (blockOf ws) 0
+  same-value : (rule : ℕ) → floatValue rule i ≡ instantValue rule (kindOf i) (blockOf ws) 0
   unfolding floatValue instantValue
-  same-value = ap (λ (zs : List ℤ). pseudoAbsolute (mixed (kindOf i) zs))
+  same-value rule = ap (λ (zs : List ℤ). pseudoAbsolute (mixed rule (kindOf i) zs))
       (samples-are o ∙ sym (block-samples ws) ∙ ap (instantSamples (blockOf ws) 0) (sym (one-instant i .2 ∙ as-many o)))
 
-  module _ (d : ℕ) (f : Fingerprint) (own : kindOf i ≡ f .mix) where
+  module _ (rule d : ℕ) (f : Fingerprint) (own : kindOf i ≡ f .mix) where
     same-number : instantNumber d f i ≡ soundNumber d f (length (blockOf ws))
     unfolding instantNumber soundNumber hasNan
     same-number = rw (← own, size, one-instant i .1, one-instant i .0, no-nan o, eq-eqb (kindOf i) (kindOf i) refl) refl
 
-    same-heard : stepOf d f (floatValue i) ≡ heardOf d f (blockOf ws)
+    same-heard : stepOf d f (floatValue rule i) ≡ heardOf rule d f (blockOf ws)
     unfolding heardOf valuesOf valuesAt after
-    same-heard = rw (← own, size, one-instant i .0, zero-mul (instantBytes (kindOf i)), same-value) refl
+    same-heard = rw (← own, size, one-instant i .0, zero-mul (instantBytes (kindOf i)), same-value rule) refl
 
 -- the same outcome, if fingerprint k itself has it
 same-outcome : (s : Session) (k number number′ : ℕ) (f f′ : Fingerprint) → (k < s .programme .settings .count → (number ≡ number′) × (f ≡ f′))
@@ -119,9 +119,10 @@ same : (s : Session) (k : ℕ) (i : Instant) (ws : List ℕ) → AllOver (values
 unfolding instantOf instantedNumber soundOf soundedNumber
 same s k i ws o own =
     let d : ℕ = intervalOf (s .programme .settings .rate) in
+    let rule : ℕ = s .programme .settings .rule in
     let f : Fingerprint = getD (s .fingerprints) k noFingerprint in
-    same-outcome s k (instantNumber d f i) (soundNumber d f (length (blockOf ws))) (stepOf d f (floatValue i)) (heardOf d f (blockOf ws))
-    (λ l. (same-number i ws o d f (own l), same-heard i ws o d f (own l)))
+    same-outcome s k (instantNumber d f i) (soundNumber d f (length (blockOf ws))) (stepOf d f (floatValue rule i)) (heardOf rule d f (blockOf ws))
+    (λ l. (same-number i ws o rule d f (own l), same-heard i ws o rule d f (own l)))
 
 pub as-block : (s : Session) (k : ℕ) (i : Instant) (ws : List ℕ) → AllOver (valuesIn i) ws
     → (k < s .programme .settings .count → kindOf i ≡ getD (s .fingerprints) k noFingerprint .mix)

@@ -65,7 +65,7 @@ module _ (u : Setup) (a : accepted u ≡ true) {es : List Event} {t : Session} (
   unfolding withBlanks audioSaid audioAfter
   said-right true e k i =
       let q = voice-right (bytesDue (u .rate) (sounded u es)) (due-fits u l es .1) (o .voices) e k i in
-      rw (said-at (intervalOf (u .rate)) (bitsPacked (u .rate) (sounded u es)) (bytesDue (u .rate) (sounded u es)) (samples es) 0 (u .mixes) _ blankPrint k i, zero-add k)
+      rw (said-at (intervalOf (u .rate)) (bitsPacked (u .rate) (sounded u es)) (bytesDue (u .rate) (sounded u es)) (samples (u .rule) es) 0 (u .mixes) _ blankPrint k i, zero-add k)
       (rw (zero-add k) at q)
   said-right false e k i = absurd (not-suc-le-zero i)
 
@@ -83,8 +83,8 @@ module _ (u : Setup) (a : accepted u ≡ true) {es : List Event} {t : Session} (
   bits-right audio-restart = tt
 
   pub stored-near : (k : ℕ) → k < length (u .mixes)
-      → Near 1023 (getD (t .fingerprints) k noFingerprint .envelope) (exactEnvelope (samples es (getD (u .mixes) k 0) k))
-      × Near 8191 (getD (t .fingerprints) k noFingerprint .mean) (exactMean (samples es (getD (u .mixes) k 0) k))
+      → Near 1023 (getD (t .fingerprints) k noFingerprint .envelope) (exactEnvelope (samples (u .rule) es (getD (u .mixes) k 0) k))
+      × Near 8191 (getD (t .fingerprints) k noFingerprint .mean) (exactMean (samples (u .rule) es (getD (u .mixes) k 0) k))
   stored-near k i =
       let v = rw (zero-add k) at (voice-at (o .voices) k i) in
-      answers.stored-near (getD (u .mixes) k 0) (intervalOf (u .rate)) (samples es (getD (u .mixes) k 0) k) (bitsPacked (u .rate) (sounded u es)) (getD (t .fingerprints) k noFingerprint) v
+      answers.stored-near (getD (u .mixes) k 0) (intervalOf (u .rate)) (samples (u .rule) es (getD (u .mixes) k 0) k) (bitsPacked (u .rate) (sounded u es)) (getD (t .fingerprints) k noFingerprint) v

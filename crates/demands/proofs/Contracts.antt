@@ -40,8 +40,8 @@ use Rattle.demands.specs.Calls as calls
 
 pub setup-contract : (κs : Lfts 1) (a : ArgsD setup.signature κs) (r : ResD setup.signature κs) (s : AtExit (endedOf 1 setup-kinds.ps setup-kinds.r) κs)
     → setup-reads.Post κs a r s
-    → let u : Setup = record { format = a .0; rate = a .1 .0; mixes = now (a .1 .1 .0) } in
-    (r .number ≡ setupOf (u .format) (u .rate) (u .mixes) .number) × (r .session ≡ begun u)
+    → let u : Setup = record { format = a .0; rate = a .1 .0; rule = a .1 .1 .0; mixes = now (a .1 .1 .1 .0) } in
+    (r .number ≡ setupOf (u .format) (u .rate) (u .rule) (u .mixes) .number) × (r .session ≡ begun u)
 unfolding begun
 setup-contract κs a r s p = (ap (λ (x : Begun). x .number) p, ap (λ (x : Begun). x .session) p)
 

@@ -33,8 +33,8 @@ pub refused-call : (s : Session) (c : Call) → (answerOf s c .number ≡ 0 → 
 refused-call s c h = refusals.untouched s c h
 
 -- A refused setup answers 1, and its session is the empty one ("a refused setup gives an empty one").
-pub refused-setup : (u : Setup) → (setupOf (u .format) (u .rate) (u .mixes) .number ≡ 0 → ⊥)
-    → (setupOf (u .format) (u .rate) (u .mixes) .number ≡ 1) × (begun u ≡ emptySession)
+pub refused-setup : (u : Setup) → (setupOf (u .format) (u .rate) (u .rule) (u .mixes) .number ≡ 0 → ⊥)
+    → (setupOf (u .format) (u .rate) (u .rule) (u .mixes) .number ≡ 1) × (begun u ≡ emptySession)
 refused-setup u h = refusals.setup-refused u h
 
 -- That session stays empty, whatever the calls: "Line, Sound and Pack return 1 first and restarts change nothing".

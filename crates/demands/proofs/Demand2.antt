@@ -17,6 +17,7 @@ use Rattle.packet.specs.Reading as read
 use Rattle.packet.specs.Writing as write
 use Rattle.packet_laws.specs.Handed.{wrapped, unwrapped}
 use Rattle.packet_laws.proofs.Packet as packet
+use Rattle.session.specs.declared.Settings.{Settings}
 use Rattle.session.specs.declared.Session.{Session}
 use Rattle.session.specs.Session.{setupOf}
 use Rattle.demands.specs.Calls.{Setup, Call, Answer, Event, calls, begun, answerOf, Run, none, then}
@@ -38,8 +39,12 @@ as-paper u (then {es} {t} c r) =
 pub next-answer : (u : Setup) {es : List Event} {t : Session} → Run (begun u) es t → (c : Call) → answerOf t c ≡ paper u es c
 next-answer u r c = runs.next-answer u r c
 
--- Setup itself: 0 exactly where format, rate pairing, fingerprint count and mix types are listed, else 1
-pub setup-answer : (u : Setup) → setupOf (u .format) (u .rate) (u .mixes) .number ≡ cond (accepted u) 0 1
+-- "Setup takes rule 1 or 2, and a session keeps it" (02, A9)
+pub keeps-rule : (u : Setup) → accepted u ≡ true → {es : List Event} {t : Session} → Run (begun u) es t → t .programme .settings .rule ≡ u .rule
+keeps-rule u a r = ap (λ (s : Settings). s .rule) (runs.always u a r .settings)
+
+-- Setup itself: 0 exactly where format, rate pairing, rule, fingerprint count and mix types are listed, else 1
+pub setup-answer : (u : Setup) → setupOf (u .format) (u .rate) (u .rule) (u .mixes) .number ≡ cond (accepted u) 0 1
 setup-answer u = runs.setup-answer u
 
 -- the same of the card as a program, to hold it against the wrong ones

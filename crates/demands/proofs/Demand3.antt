@@ -21,8 +21,8 @@ every-bit u a r = every u a (BitsRight u) (λ es t o. bits-right u a o) r
 
 -- After any run, what each fingerprint stores is never below the exact value over its accepted samples, nor more than 1,023 (envelope) or 8,191 (mean) above it.
 pub stored : (u : Setup) → accepted u ≡ true → {es : List Event} {t : Session} → Run (begun u) es t → (k : ℕ) → k < length (u .mixes)
-    → Near 1023 (getD (t .fingerprints) k noFingerprint .envelope) (exactEnvelope (samples es (getD (u .mixes) k 0) k))
-    × Near 8191 (getD (t .fingerprints) k noFingerprint .mean) (exactMean (samples es (getD (u .mixes) k 0) k))
+    → Near 1023 (getD (t .fingerprints) k noFingerprint .envelope) (exactEnvelope (samples (u .rule) es (getD (u .mixes) k 0) k))
+    × Near 8191 (getD (t .fingerprints) k noFingerprint .mean) (exactMean (samples (u .rule) es (getD (u .mixes) k 0) k))
 stored u a r k l = stored-near u a (always u a r) k l
 
 -- the same of the card as a program, to hold it against the wrong ones

@@ -37,8 +37,10 @@ use Rattle.demands.specs.Calls.{Setup, Call, line, sound, instant, pack,
 use Rattle.session.specs.Packing.{readyNumber}
 use Rattle.demands.specs.Paper.{waiting, made, audioAfter, sounded, contentsSaid, packedSaid, said, saidEmpty, accepted, paper, transcript}
 use Rattle.demands.specs.Demands.{readBack}
-use Rattle.demands.specs.Programs.{RightNumbers, bytesIn, RefusesLines, RefusesSound, RefusesInstants, RefusesPacks, TellsAlways, Exchanges, ShowsAlways, Speaks, SpeaksAlways, PacksAlways, Forgets, newest, Repeats, Invents, Claims}
-use Rattle.demands.specs.Examples.{refusing, withBytes, bytesBy, altering, tellingBy, toldAs, telling, toldExchanged, exchanging, shownAs, withVideo, showing, printAs, withAudio, speaking, packing, forgetting, repeating, withByte, inventing, claiming}
+use Rattle.session.specs.Session.{ruleListed}
+use Rattle.demands.specs.Rules.{byRule}
+use Rattle.demands.specs.Programs.{RightNumbers, bytesIn, RefusesLines, RefusesSound, RefusesInstants, RefusesPacks, TellsAlways, Exchanges, ShowsAlways, Speaks, SpeaksAlways, PacksAlways, IgnoresRule, Forgets, newest, Repeats, Invents, Claims}
+use Rattle.demands.specs.Examples.{refusing, withBytes, bytesBy, altering, tellingBy, toldAs, telling, toldExchanged, exchanging, shownAs, withVideo, showing, printAs, withAudio, speaking, packing, unruled, forgetting, repeating, withByte, inventing, claiming}
 use Rattle.demands.proofs.Listed.{listed}
 use Rattle.demands.proofs.Packable.{said-passes, said-typed-as}
 use Rattle.demands.proofs.Against.{set-up}
@@ -109,6 +111,10 @@ packing-packs bytes u cs id out z =
 pub packing-numbers : (bytes : Setup → List ℕ) → RightNumbers (packing bytes)
 unfolding packing
 packing-numbers bytes u cs c = bytes-number (bytes u) c (paper u (transcript (packing bytes) u cs) c)
+
+pub unruled-ignores : IgnoresRule unruled
+unfolding unruled byRule ruleListed
+unruled-ignores u es c = refl
 
 pub forgetting-forgets : Forgets forgetting
 unfolding forgetting

@@ -1,13 +1,15 @@
 -- A click and silence after it: the samples, and the exact values in closed form. 50 samples on, the envelope is far above the mean; 4,050 samples on, far below.
 use Prim.Native.Nat.{ℕ, zero, suc, _+_, _-_, _*_, _^_, _≤_, _<_}
-use mathlib.Core.Path.{_≡_, refl, ap, _∙_}
+use mathlib.Core.Path.{_≡_, refl, sym, ap, ap₂, _∙_}
 use mathlib.Core.List.{List, [], _∷_, _++_}
 use native.Mathlib.Omega.{arith}
 use native.Mathlib.Nat.{sub-zero, pow-zero, pow-suc, suc-mul, le-of-suc-le-suc, not-suc-le-zero}
-use lib.ListN.{length, getD, drop, replicate, length-append, length-replicate}
+use lib.ListN.{length, drop, replicate, length-append, length-replicate}
 use borrow.Author.Tests.{ltb-true, leb-true}
-use Rattle.sound.specs.Mix.{signed, signedAt, instantSamples, weights, divisor, weighted, floor, mixed, pseudoAbsolute, instantBytes, instantValue}
+use Rattle.sound.specs.Mix.{signed, signedAt, instantSamples, weights, divisor, weighted, floor, quotient, mixed, pseudoAbsolute, instantBytes, instantValue}
 use Rattle.sound.specs.Exact.{Fraction, exactNext, exact, exactEnvelope, exactMean, MoreAbove, AtLeastAbove}
+use Rattle.laws.proofs.Lists.{getD-zeros}
+use Rattle.sound.proofs.Instants.{silent-value}
 use Rattle.sound.proofs.Exact.{den-power}
 use Rattle.fingerprint.specs.State.{valuesAt, instants, valuesOf, wholeInstants}
 use Rattle.fingerprint.specs.History.{upTo, keptAmong, keptBits}
@@ -26,27 +28,19 @@ faded n = replicate n 0 ++ (32767 ∷ 0 ∷ [])
 
 -- ---- the samples
 
-pub click-values : valuesOf 1 click ≡ 32767 ∷ 0 ∷ []
-unfolding click valuesOf valuesAt instants instantBytes instantValue mixed floor weighted weights divisor instantSamples signedAt signed pseudoAbsolute
+pub click-values : valuesOf 1 1 click ≡ 32767 ∷ 0 ∷ []
+unfolding click valuesOf valuesAt instants instantBytes instantValue mixed quotient floor weighted weights divisor instantSamples signedAt signed pseudoAbsolute
 click-values = refl
 
-zeros-at : (m i : ℕ) → _≡_ {A = ℕ} (getD (replicate m 0) i 0) 0
-zeros-at zero i = refl
-zeros-at (suc m) zero = refl
-zeros-at (suc m) (suc i) = zeros-at m i
-
-silent : (m at : ℕ) → instantValue 1 (replicate m 0) at ≡ 0
-unfolding instantValue mixed floor weighted weights divisor instantSamples signedAt signed pseudoAbsolute
-silent m at = rw (zeros-at m at, zeros-at m (at + 1)) refl
-
-silent-values : (m at n : ℕ) → valuesAt 1 (replicate m 0) at n ≡ replicate n 0
+pub silent-values : (rule mix m at n : ℕ) → valuesAt rule mix (replicate m 0) at n ≡ replicate n 0
 unfolding valuesAt
-silent-values m at zero = refl
-silent-values m at (suc n) = rw (silent m (at + n * instantBytes 1), silent-values m at n) refl
+silent-values rule mix m at zero = refl
+silent-values rule mix m at (suc n) =
+    ap₂ _∷_ (sym (silent-value rule mix (replicate m 0) (at + n * instantBytes mix) (λ k l. getD-zeros m k))) (silent-values rule mix m at n)
 
-pub silence-values : valuesOf 1 silence ≡ replicate 5998 0
+pub silence-values : valuesOf 1 1 silence ≡ replicate 5998 0
 unfolding silence valuesOf instants instantBytes weights
-silence-values = silent-values 11996 0 5998
+silence-values = silent-values 1 1 11996 0 5998
 
 faded-length : (n : ℕ) → length (faded n) ≡ n + 2
 unfolding faded
@@ -54,25 +48,28 @@ faded-length n = length-append {A = ℕ} (replicate n 0) (32767 ∷ 0 ∷ []) �
 
 -- ---- the bits that they give at D = 50
 
+kept-6000 : keptAmong 50 6000 ≡ 120
+kept-6000 = kept-count 50 (omega arith) 6000 120 (omega arith, omega arith)
+
 pub kept-120 : keptBits 50 (faded 5998) ≡ 120
 unfolding keptBits
-kept-120 = rw (faded-length 5998) (kept-count 50 (omega arith) 6000 120 (omega arith, omega arith))
+kept-120 = rw (faded-length 5998) kept-6000
 
 pub click-taken : soundAnswer 1 50 [] 0 click ≡ 0
-unfolding click soundAnswer wholeInstants instantBytes weights keptBits keptAmong valuesOf valuesAt instants
+unfolding click soundAnswer wholeInstants instantBytes weights keptAmong instants
 click-taken = refl
 
 silence-length : length silence ≡ 11996
 unfolding silence
 silence-length = length-replicate {A = ℕ} 11996 0
 
-pub all-values : valuesOf 1 silence ++ (32767 ∷ 0 ∷ []) ≡ faded 5998
+pub all-values : valuesOf 1 1 silence ++ (32767 ∷ 0 ∷ []) ≡ faded 5998
 unfolding faded
 all-values = ap (λ (x : List ℕ). x ++ (32767 ∷ 0 ∷ [])) silence-values
 
 pub silence-taken : soundAnswer 1 50 (32767 ∷ 0 ∷ []) 0 silence ≡ 0
-unfolding soundAnswer wholeInstants instantBytes weights
-silence-taken = rw (silence-length, all-values, kept-120) refl
+unfolding soundAnswer wholeInstants instants instantBytes weights
+silence-taken = rw (silence-length, kept-6000) refl
 
 -- ---- the exact values
 

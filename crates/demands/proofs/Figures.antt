@@ -1,4 +1,4 @@
--- Document 01's starred figures ("Figures to check against"), as one table.
+-- Document 01's starred figures ("Figures to check against"), with 02's for the second mixing rule (A9) beside them, as one table.
 use Prim.Native.Nat.{ℕ, _+_, _<_}
 use mathlib.Core.Path.{_≡_, refl, _∙_}
 use mathlib.Core.Bool.{true, false}
@@ -15,7 +15,7 @@ use Rattle.rates.specs.Mixes.{mixListed}
 use Rattle.rates.specs.Cadence.{cadences, cadence, countOccurs, frames, from}
 use Rattle.picture.specs.Fields.{difference, isBrighter, isDarker, brighterIn, darkerIn, fingerprintOf}
 use Rattle.picture.proofs.Compared.{brighter-is, darker-is}
-use Rattle.sound.specs.Mix.{signed, signedAt, instantSamples, weights, divisor, weighted, floor, mixed, pseudoAbsolute}
+use Rattle.sound.specs.Mix.{signed, signedAt, instantSamples, weights, divisor, weighted, floor, towardsZero, quotient, mixed, pseudoAbsolute}
 use Rattle.sound.specs.Filter.{filterNext, filtered, envelopeAfter, meanAfter}
 use Rattle.laws.specs.declared.Video.{Video}
 use Rattle.laws.specs.declared.Video.the-variants.{Absent, One}
@@ -62,8 +62,11 @@ pub record Figures : Type 0 where
   pub thousand : pseudoAbsolute (negsuc 999) ≡ 999
   pub lowest : pseudoAbsolute (negsuc 32767) ≡ 32767
   -- L = R = -2 mixes to -2; both -32768 mix to -23171; these are the samples in the bytes FE FF FE FF and 00 80 00 80
-  pub two : mixed 2 (negsuc 1 ∷ negsuc 1 ∷ []) ≡ negsuc 1
-  pub both : mixed 2 (negsuc 32767 ∷ negsuc 32767 ∷ []) ≡ negsuc 23170
+  pub two : mixed 1 2 (negsuc 1 ∷ negsuc 1 ∷ []) ≡ negsuc 1
+  pub both : mixed 1 2 (negsuc 32767 ∷ negsuc 32767 ∷ []) ≡ negsuc 23170
+  -- and by rule 2 to -1 and -23170
+  pub two-to-zero : mixed 2 2 (negsuc 1 ∷ negsuc 1 ∷ []) ≡ negsuc 0
+  pub both-to-zero : mixed 2 2 (negsuc 32767 ∷ negsuc 32767 ∷ []) ≡ negsuc 23169
   pub two-read : instantSamples (0xFE ∷ 0xFF ∷ 0xFE ∷ 0xFF ∷ []) 0 2 ≡ negsuc 1 ∷ negsuc 1 ∷ []
   pub both-read : instantSamples (0x00 ∷ 0x80 ∷ 0x00 ∷ 0x80 ∷ []) 0 2 ≡ negsuc 32767 ∷ negsuc 32767 ∷ []
   -- a(1) = 1000, a(2) = 0: E = 8000 then 7993, M = 1000 then 1000, whatever a(0) was
@@ -86,7 +89,7 @@ unchanged : (x y : ℕ) → x < y + 32 → y < x + 32 → Unchanged x y
 unchanged x y h k = (brighter-is x y ∙ lt-leb (y + 32) x h, darker-is x y ∙ lt-leb (x + 32) y k)
 
 pub figures : Figures
-unfolding fingerprintOf pseudoAbsolute mixed floor weighted weights divisor instantSamples signedAt signed filtered filterNext reading headerNumber partsReading partsJoined middle idPart videoPart oneField audioPart audioOf runOf printPart printAt countOccurs cadence cadences frames from isOneOf sameCount allCarry over sum rateListed mixListed packetWords frontWords headWords wordOf withBit9 parity sum9 checkWord
+unfolding fingerprintOf pseudoAbsolute mixed quotient towardsZero floor weighted weights divisor instantSamples signedAt signed filtered filterNext reading headerNumber partsReading partsJoined middle idPart videoPart oneField audioPart audioOf runOf printPart printAt countOccurs cadence cadences frames from isOneOf sameCount allCarry over sum rateListed mixListed packetWords frontWords headWords wordOf withBit9 parity sum9 checkWord
 figures = record {
   unchanged-31 = λ x. (unchanged x (x + 31) (omega arith) (omega arith), unchanged (x + 31) x (omega arith) (omega arith));
   changed-32 = λ x. (darker-is x (x + 32) ∙ le-leb (x + 32) (x + 32) (omega arith), brighter-is (x + 32) x ∙ le-leb (x + 32) (x + 32) (omega arith));
@@ -97,6 +100,8 @@ figures = record {
   lowest = refl;
   two = refl;
   both = refl;
+  two-to-zero = refl;
+  both-to-zero = refl;
   two-read = refl;
   both-read = refl;
   envelope-1 = λ a. refl;

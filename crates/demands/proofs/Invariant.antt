@@ -44,7 +44,7 @@ use Rattle.demands.proofs.Voices.{Voices, fresh-voices, voice-at, same-
 pub record Holds (u : Setup) (es : List Event) (t : Session) : Type 0 where
   pub settings : t .programme .settings ≡ settingsOf u
   pub picture : picture.Holds (u .format) (lines (u .format) es) (waiting (u .format) es) (t .programme .picture)
-  pub voices : Voices (intervalOf (u .rate)) (bitsPacked (u .rate) (sounded u es)) (samples es) 0 (u .mixes) (t .fingerprints)
+  pub voices : Voices (intervalOf (u .rate)) (bitsPacked (u .rate) (sounded u es)) (samples (u .rule) es) 0 (u .mixes) (t .fingerprints)
   pub counter : t .programme .counter ≡ made es % 256
   pub place : t .programme .place ≡ sounded u es % length (cadence (u .rate))
 
@@ -119,7 +119,7 @@ module _ (u : Setup) (l : Listed u) (es : List Event) (v : Picture) (n q : ℕ) 
   voice k = getD fs k noFingerprint
 
   -- the number, from what fingerprint k itself says
-  reached-is : (k : ℕ) (number said : ℕ) → (fingerprint.Holds (getD (u .mixes) k 0) d (samples es (getD (u .mixes) k 0) k) gone (voice k) → number ≡ said)
+  reached-is : (k : ℕ) (number said : ℕ) → (fingerprint.Holds (getD (u .mixes) k 0) d (samples (u .rule) es (getD (u .mixes) k 0) k) gone (voice k) → number ≡ said)
       → reached (settingsOf u) k number ≡ cond (leb (length (u .mixes)) k) 7 said
   reached-is k number said own = rw (is-set u l) (go (leb (length (u .mixes)) k) refl)
     where
@@ -140,13 +140,13 @@ module _ (u : Setup) (l : Listed u) (es : List Event) (v : Picture) (n q : ℕ) 
     waiting-same : waiting f (record { call = c; answer = a } ∷ es) ≡ waiting f es
     made-same : made (record { call = c; answer = a } ∷ es) ≡ made es
     sounded-same : sounded u (record { call = c; answer = a } ∷ es) ≡ p
-    heard : (m j : ℕ) → cond (eqb (a .number) 0 && eqb k j) (x m ++ samples es m j) (samples es m j) ≡ samples (record { call = c; answer = a } ∷ es) m j
+    heard : (m j : ℕ) → cond (eqb (a .number) 0 && eqb k j) (x m ++ samples (u .rule) es m j) (samples (u .rule) es m j) ≡ samples (u .rule) (record { call = c; answer = a } ∷ es) m j
 
   abbrev SoundRight : Call → ℕ → Sounded → Type 0
   SoundRight c said x = (x .number ≡ said) × Holds u (record { call = c; answer = saying (x .number) } ∷ es) (x .session)
 
   module _ (c : Call) (k : ℕ) (x : ℕ → List ℕ) (h : (a : Answer) → Heard c k x a) where
-    hears : (a : Answer) (gs : List Fingerprint) → Voices d gone (λ m j. cond (eqb (a .number) 0 && eqb k j) (x m ++ samples es m j) (samples es m j)) 0 (u .mixes) gs
+    hears : (a : Answer) (gs : List Fingerprint) → Voices d gone (λ m j. cond (eqb (a .number) 0 && eqb k j) (x m ++ samples (u .rule) es m j) (samples (u .rule) es m j)) 0 (u .mixes) gs
         → Holds u (record { call = c; answer = a } ∷ es) (by-parts u v n q gs)
     hears a gs w =
         let y = h a in
@@ -170,21 +170,21 @@ module _ (u : Setup) (l : Listed u) (es : List Event) (v : Picture) (n q : ℕ) 
   sound-right : (k : ℕ) (b : List ℕ) → Right u es s (sound k b)
   unfolding answerOf afterCall said soundOf soundedNumber soundSaid lines linesAt waiting waitingAt samples samplesAt made madeAt sounded soundedAt
   sound-right k b =
-      let only : (a : Answer) → Heard (sound k b) k (λ m. valuesOf m b) a =
+      let only : (a : Answer) → Heard (sound k b) k (λ m. valuesOf (u .rule) m b) a =
       λ a. record { lines-same = refl; waiting-same = refl; made-same = refl; sounded-same = refl; heard = λ m j. refl } in
       let number = reached-is k (soundNumber d (voice k) (length b)) _ (λ w. sound-paper _ d _ gone (voice k) w b) in
-      let r = heard-right (sound k b) k (λ m. valuesOf m b) only _ _ (heardOf d (voice k) b) number
-      (λ z m y w. holds-sound m d y gone (voice k) w b true (eq-eqb _ _ (reached-0 k _ z))) in
+      let r = heard-right (sound k b) k (λ m. valuesOf (u .rule) m b) only _ _ (heardOf (u .rule) d (voice k) b) number
+      (λ z m y w. holds-sound m d y gone (voice k) w (u .rule) b true (eq-eqb _ _ (reached-0 k _ z))) in
       record { answer = ap saying (r .0); holds = r .1 }
 
   instant-right : (k : ℕ) (i : Instant) → Right u es s (instant k i)
   unfolding answerOf afterCall said instantOf instantedNumber instantSaid lines linesAt waiting waitingAt samples samplesAt made madeAt sounded soundedAt
   instant-right k i =
-      let only : (a : Answer) → Heard (instant k i) k (λ m. floatValue i ∷ []) a =
+      let only : (a : Answer) → Heard (instant k i) k (λ m. floatValue (u .rule) i ∷ []) a =
       λ a. record { lines-same = refl; waiting-same = refl; made-same = refl; sounded-same = refl; heard = λ m j. refl } in
       let number = reached-is k (instantNumber d (voice k) i) _ (λ w. instant-paper _ d _ gone (voice k) w i) in
-      let r = heard-right (instant k i) k (λ m. floatValue i ∷ []) only _ _ (stepOf d (voice k) (floatValue i)) number
-      (λ z m y w. holds-instant m d y gone (voice k) w i (reached-0 k _ z)) in
+      let r = heard-right (instant k i) k (λ m. floatValue (u .rule) i ∷ []) only _ _ (stepOf d (voice k) (floatValue (u .rule) i)) number
+      (λ z m y w. holds-instant m d y gone (voice k) w (u .rule) i (reached-0 k _ z)) in
       record { answer = ap saying (r .0); holds = r .1 }
 
   -- ---- Pack
@@ -222,7 +222,7 @@ module _ (u : Setup) (l : Listed u) (es : List Event) (v : Picture) (n q : ℕ) 
       go false = refl
 
   voices-next : (t : Bool) → audioAfter u p es ≡ t
-      → Voices d (bitsPacked (u .rate) (cond t (suc p) p)) (samples es) 0 (u .mixes) (each (shed (dueOf (s .programme))) (cond t (length (u .mixes)) 0) fs)
+      → Voices d (bitsPacked (u .rate) (cond t (suc p) p)) (samples (u .rule) es) 0 (u .mixes) (each (shed (dueOf (s .programme))) (cond t (length (u .mixes)) 0) fs)
   unfolding audioAfter bitsPacked each
   voices-next true e = rw due-is (shed-voices (bytesDue (u .rate) p) due-5 (o .voices) e)
   voices-next false e = o .voices
@@ -321,7 +321,7 @@ packs-said u l es t o id =
 -- Setup leaves what no event at all leaves
 pub begun-holds : (u : Setup) → accepted u ≡ true → Holds u [] (begun u)
 unfolding begun setupOf accepted setUpWith freshFingerprints lines waiting samples made sounded bitsPacked
-begun-holds u e = chosen (λ (x : Begun). Holds u [] (x .session)) (eqb (setupNumber (u .format) (u .rate) (u .mixes)) 0) _ _
+begun-holds u e = chosen (λ (x : Begun). Holds u [] (x .session)) (eqb (setupNumber (u .format) (u .rate) (u .rule) (u .mixes)) 0) _ _
     (λ _. record {
       settings = refl;
       picture = picture.fresh-holds (u .format);

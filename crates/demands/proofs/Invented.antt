@@ -19,7 +19,7 @@ use Rattle.container.specs.declared.Contents.{Contents}
 use Rattle.laws.specs.declared.Video.the-variants.{Absent}
 use Rattle.container.specs.Bytes.{idBytes, videoBytes, printBytes, runBytes, audioBytes, partBytes, flagByte, frontBytes, encode}
 use Rattle.session.specs.Fingerprints.{allListed, withBlanks}
-use Rattle.session.specs.Session.{setupNumber}
+use Rattle.session.specs.Session.{ruleListed, setupNumber}
 use Rattle.demands.specs.Calls.{Setup, Call, pack, Answer}
 use Rattle.demands.specs.Paper.{bytesDue, bitsPacked, printsSaid, contentsSaid, accepted, Program}
 use Rattle.demands.specs.Demands.{Demand2}
@@ -42,8 +42,8 @@ plain rate n q h =
     }
 
 -- every program that has demand 2 packs it, wherever a frame that shows nothing waits
-module _ (n : ℕ) {rate : ℕ} (a : accepted (hd rate (monos n)) ≡ true) (p : Program) (d : Demand2 p) where
-  abbrev g : Follows rate (monos n) p
+module _ (n : ℕ) {rate : ℕ} (a : accepted (hd 1 rate (monos n)) ≡ true) (p : Program) (d : Demand2 p) where
+  abbrev g : Follows 1 rate (monos n) p
   g = follows p d a
 
   module _ {cs : List Call} {ls : List (List ℕ)} {w : Waiting} {q : ℕ} (o : At g cs ls w (played n) q q) (s : Spans rate q)
@@ -51,26 +51,26 @@ module _ (n : ℕ) {rate : ℕ} (a : accepted (hd rate (monos n)) ≡ true) (p :
     abbrev c : Contents
     c = plain rate n q (played n)
 
-    contents-are : contentsSaid (hd rate (monos n)) (T g cs) [] ≡ c
+    contents-are : contentsSaid (hd 1 rate (monos n)) (T g cs) [] ≡ c
     unfolding plain
     contents-are = contents-at g o true (holds n g o s) ∙ rw (s .fifty, no-video, length-replicate {A = ℕ} n 1) refl
 
-    says : p (hd rate (monos n)) (T g cs) (pack [] room) ≡ packedAs (encode c)
-    says = as-said p d (hd rate (monos n)) a cs (pack [] room) ∙ (pack-says g o ready ∙ ap (λ (x : Contents). packedAs (encode x)) contents-are)
+    says : p (hd 1 rate (monos n)) (T g cs) (pack [] room) ≡ packedAs (encode c)
+    says = as-said p d (hd 1 rate (monos n)) a cs (pack [] room) ∙ (pack-says g o ready ∙ ap (λ (x : Contents). packedAs (encode x)) contents-are)
 
-    pub byte-is : (i : ℕ) (x : Setup → ℕ) → i < 254 → Invents i x p → x (hd rate (monos n)) ≡ getD (over (encode c) room) i 0
+    pub byte-is : (i : ℕ) (x : Setup → ℕ) → i < 254 → Invents i x p → x (hd 1 rate (monos n)) ≡ getD (over (encode c) room) i 0
     unfolding plain
     byte-is i x l f =
         let v = ap (λ (y : Contents). y .video) contents-are in
         let z = ap (λ (b : Answer). b .number) says in
-        sym (f (hd rate (monos n)) cs room (has-audio n g o s) v (rw room-length l) z) ∙ ap (λ (b : Answer). getD (b .out) i 0) says
+        sym (f (hd 1 rate (monos n)) cs room (has-audio n g o s) v (rw room-length l) z) ∙ ap (λ (b : Answer). getD (b .out) i 0) says
 
-    pub size-is : (x : Setup → ℕ) → Claims x p → x (hd rate (monos n)) ≡ length (encode c)
-    size-is x f = sym (f (hd rate (monos n)) cs [] room (ap (λ (b : Answer). b .number) says)) ∙ ap (λ (b : Answer). b .written) says
+    pub size-is : (x : Setup → ℕ) → Claims x p → x (hd 1 rate (monos n)) ≡ length (encode c)
+    size-is x f = sym (f (hd 1 rate (monos n)) cs [] room (ap (λ (b : Answer). b .number) says)) ∙ ap (λ (b : Answer). b .written) says
 
 -- ---- The three containers
 
-no-video-1 : waitingShows (a-frame (frameShows 2 (fields (line16 ++ [])))) ≡ Absent
+pub no-video-1 : waitingShows (a-frame (frameShows 2 (fields (line16 ++ [])))) ≡ Absent
 unfolding waitingShows frameShows fields joined fieldTells shownOne interlaced rowOf named table
 no-video-1 = refl
 
@@ -79,10 +79,10 @@ unfolding waitingShows frameShows fields joined fieldTells shownOne interlaced r
 no-video-2 = refl
 
 abbrev pub two : Setup
-two = hd 5 (monos 2)
+two = hd 1 5 (monos 2)
 
 two-accepted : accepted two ≡ true
-unfolding accepted setupNumber pairsWith rateListed allListed mixListed
+unfolding accepted setupNumber ruleListed pairsWith rateListed allListed mixListed
 two-accepted = refl
 
 two-spans : (q : ℕ) → q < 2 → Spans 5 q

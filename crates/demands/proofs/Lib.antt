@@ -5,6 +5,7 @@ pub mod Demand3
 pub mod Frames
 pub mod Figures
 pub mod AsBlock
+pub mod Rules
 pub mod Sizes
 pub mod Wrong
 pub mod Contracts
@@ -20,6 +21,7 @@ pub mod Shots
 pub mod Fade
 pub mod Spoken
 pub mod Invented
+pub mod OneRule
 pub mod Pictured
 pub mod Examples
 pub mod Against

@@ -18,7 +18,7 @@ use Rattle.sampling.specs.Formats.{table, named, rowOf}
 use Rattle.picture.specs.Lines.{interlaced}
 use Rattle.session.specs.declared.Settings.{Settings}
 use Rattle.session.specs.Fingerprints.{allListed}
-use Rattle.session.specs.Session.{isSet, setupNumber}
+use Rattle.session.specs.Session.{isSet, ruleListed, setupNumber}
 use Rattle.demands.specs.Calls.{Setup}
 use Rattle.demands.specs.Paper.{accepted}
 
@@ -95,13 +95,14 @@ pub listed : (u : Setup) → accepted u ≡ true → Listed u
 unfolding accepted setupNumber
 listed u e =
     let a = past (pairsWith (u .format) (u .rate)) 1 _ (eqb-true _ 0 e) (omega arith) in
-    let b = past (leb 1 (length (u .mixes))) 1 _ (a .1) (omega arith) in
+    let r = past (ruleListed (u .rule)) 1 _ (a .1) (omega arith) in
+    let b = past (leb 1 (length (u .mixes))) 1 _ (r .1) (omega arith) in
     let c = past (leb (length (u .mixes)) 32) 1 _ (b .1) (omega arith) in
     let d = past (allListed (u .mixes)) 1 0 (c .1) (omega arith) in
     record { pairs = a .0; some = leb-true _ _ (b .0); many = leb-true _ _ (c .0); mixes = d .0 }
 
 abbrev pub settingsOf : Setup → Settings
-settingsOf u = record { format = u .format; rate = u .rate; count = length (u .mixes) }
+settingsOf u = record { format = u .format; rate = u .rate; rule = u .rule; count = length (u .mixes) }
 
 module _ (u : Setup) (l : Listed u) where
   pub is-set : isSet (settingsOf u) ≡ true

@@ -148,7 +148,7 @@ byte-small b l zero = omega arith
 byte-small b l (suc n) = rw (pow-suc 2 n) (omega (arith, byte-small b l n, mul-le-mul-left (2 ^ n) (l n)))
 
 module _ (d : ℕ) (h : List ℕ) (k : ℕ) where
-  from-length : (n : ℕ) → length (bytesFrom d h k n) ≡ n
+  pub from-length : (n : ℕ) → length (bytesFrom d h k n) ≡ n
   unfolding bytesFrom
   from-length zero = refl
   from-length (suc n) = simp length-append (omega (arith, from-length n))

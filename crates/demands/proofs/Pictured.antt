@@ -133,7 +133,7 @@ shown w =
     }
 
 module _ (p : Program) (d : Demand2 p) {y b : List ℕ} {w m l : ℕ} (k : Gives y b w m l) where
-  abbrev g : Follows 3 (monos 1) p
+  abbrev g : Follows 1 3 (monos 1) p
   g = follows p d is-accepted
 
   two-frames : At g (pack [] room ∷ rows y 16 (pack [] room ∷ rows y 16 []))

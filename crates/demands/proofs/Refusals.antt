@@ -1,8 +1,8 @@
 -- A refusal changes nothing, whatever the session, and its number stands in document 01's row.
-use Prim.Native.Nat.{ℕ, _+_, _*_}
+use Prim.Native.Nat.{ℕ, suc, _+_, _*_}
 use mathlib.Core.Path.{_≡_, refl, ap}
 use mathlib.Core.Bool.{Bool, true, false, cond, _&&_, _||_, not, false≢true}
-use mathlib.Core.List.{List, [], _∷_, _++_}
+use mathlib.Core.List.{List, [], _∷_}
 use lib.Dec.{leb, ltb, eqb}
 use lib.ListN.{length, getD, drop}
 use lib.Seq.{drop-at}
@@ -16,9 +16,9 @@ use Rattle.picture.specs.Lines.{monitored, orderNumber, lineNumber}
 use Rattle.picture.specs.History.{isWaiting, nextLine, numberSaid}
 use Rattle.picture.proofs.Answers.{refused-same}
 use Rattle.floats.specs.declared.Instant.{Instant}
-use Rattle.floats.specs.Instants.{refusedBy, floatValue}
-use Rattle.fingerprint.specs.State.{wholeInstants, valuesOf}
-use Rattle.fingerprint.specs.History.{keptBits}
+use Rattle.floats.specs.Instants.{refusedBy}
+use Rattle.fingerprint.specs.State.{wholeInstants, instants}
+use Rattle.fingerprint.specs.History.{keptAmong}
 use Rattle.fingerprint.specs.Paper.{soundAnswer, instantAnswer}
 use Rattle.container.specs.declared.Contents.{Contents}
 use Rattle.container.specs.declared.Reading.{Reading}
@@ -143,12 +143,12 @@ module _ (s : Session) where
 
 -- ---- Setup and Read container
 
-pub setup-refused : (u : Setup) → (setupOf (u .format) (u .rate) (u .mixes) .number ≡ 0 → ⊥)
-    → (setupOf (u .format) (u .rate) (u .mixes) .number ≡ 1) × (begun u ≡ emptySession)
+pub setup-refused : (u : Setup) → (setupOf (u .format) (u .rate) (u .rule) (u .mixes) .number ≡ 0 → ⊥)
+    → (setupOf (u .format) (u .rate) (u .rule) (u .mixes) .number ≡ 1) × (begun u ≡ emptySession)
 unfolding begun setupOf
-setup-refused u = chosen (λ (x : Begun). (x .number ≡ 0 → ⊥) → (x .number ≡ 1) × (x .session ≡ emptySession)) (eqb (setupNumber (u .format) (u .rate) (u .mixes)) 0) _ _
+setup-refused u = chosen (λ (x : Begun). (x .number ≡ 0 → ⊥) → (x .number ≡ 1) × (x .session ≡ emptySession)) (eqb (setupNumber (u .format) (u .rate) (u .rule) (u .mixes)) 0) _ _
     (λ _ h. absurd (h refl))
-    (λ _ h. (setup-1 (u .format) (u .rate) (u .mixes) h, refl))
+    (λ _ h. (setup-1 (u .format) (u .rate) (u .rule) (u .mixes) h, refl))
 
 pub reading-refused : (s : List ℕ) → (reading s .number ≡ 0 → ⊥) → reading s .contents ≡ emptyContents
 unfolding reading partsReading partsJoined
@@ -191,7 +191,7 @@ module _ (u : Setup) (l : Listed u) (es : List Event) where
   sound-number k b =
       chosen P (leb (length (u .mixes)) k) _ _ (λ _. refl)
       (λ _. chosen P (wholeInstants (getD (u .mixes) k 0) (length b)) _ _
-      (λ _. chosen P (ltb (256 + bitsPacked (u .rate) (sounded u es)) (keptBits (intervalOf (u .rate)) (valuesOf m b ++ samples es m k))) 9 0 (λ _. refl) (λ _. refl))
+      (λ _. chosen P (ltb (256 + bitsPacked (u .rate) (sounded u es)) (keptAmong (intervalOf (u .rate)) (instants m (length b) + length (samples (u .rule) es m k)))) 9 0 (λ _. refl) (λ _. refl))
       (λ _. refl))
     where
       P : ℕ → Type 0
@@ -205,7 +205,7 @@ module _ (u : Setup) (l : Listed u) (es : List Event) where
   instant-number k i =
       chosen P (leb (length (u .mixes)) k) _ _ (λ _. refl)
       (λ _. chosen P (refusedBy m i) _ _ (λ _. refl)
-      (λ _. chosen P (ltb (256 + bitsPacked (u .rate) (sounded u es)) (keptBits (intervalOf (u .rate)) (floatValue i ∷ samples es m k))) 9 0 (λ _. refl) (λ _. refl)))
+      (λ _. chosen P (ltb (256 + bitsPacked (u .rate) (sounded u es)) (keptAmong (intervalOf (u .rate)) (suc (length (samples (u .rule) es m k))))) 9 0 (λ _. refl) (λ _. refl)))
     where
       P : ℕ → Type 0
       P = One (7 ∷ 14 ∷ 9 ∷ [])

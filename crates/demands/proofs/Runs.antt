@@ -11,7 +11,7 @@ use Rattle.rates.specs.Rates.{pairsWith}
 use Rattle.session.specs.declared.Session.{Session}
 use Rattle.session.specs.declared.Begun.{Begun}
 use Rattle.session.specs.Fingerprints.{allListed}
-use Rattle.session.specs.Session.{isSet, setupNumber, setUpWith, emptySession, setupOf, lineOf, soundedNumber, soundOf, instantedNumber, instantOf, videoRestarted, audioRestarted}
+use Rattle.session.specs.Session.{isSet, ruleListed, setupNumber, setUpWith, emptySession, setupOf, lineOf, soundedNumber, soundOf, instantedNumber, instantOf, videoRestarted, audioRestarted}
 use Rattle.session.specs.Packing.{packNumber, packOf, packOut}
 use Rattle.demands.specs.Calls.{Setup, Call, line, sound, instant, pack, video-restart, audio-restart, Answer, Event, calls, begun, answerOf, afterCall, Run, none, then}
 use Rattle.demands.specs.Paper.{said, saidEmpty, accepted, paper, Program, transcript}
@@ -36,13 +36,15 @@ module _ (u : Setup) (a : accepted u ≡ true) where
   every P f (then {es} {t} c r) = (f es t (always r) c, every P f r)
 
 -- ---- Setup
-pub setup-1 : (f r : ℕ) (mixes : List ℕ) → (setupNumber f r mixes ≡ 0 → ⊥) → setupNumber f r mixes ≡ 1
+pub setup-1 : (f r rule : ℕ) (mixes : List ℕ) → (setupNumber f r rule mixes ≡ 0 → ⊥) → setupNumber f r rule mixes ≡ 1
 unfolding setupNumber
-setup-1 f r mixes =
+setup-1 f r rule mixes =
     chosen P (pairsWith f r) _ _
+    (λ _. chosen P (ruleListed rule) _ _
     (λ _. chosen P (leb 1 (length mixes)) _ _
     (λ _. chosen P (leb (length mixes) 32) _ _
     (λ _. chosen P (allListed mixes) _ _ (λ _ h. absurd (h refl)) (λ _ _. refl))
+    (λ _ _. refl))
     (λ _ _. refl))
     (λ _ _. refl))
     (λ _ _. refl)
@@ -71,7 +73,7 @@ empty-stays audio-restart = refl
 
 pub refused-empty : (u : Setup) → accepted u ≡ false → begun u ≡ emptySession
 unfolding begun setupOf accepted
-refused-empty u e = chosen (λ (x : Begun). x .session ≡ emptySession) (eqb (setupNumber (u .format) (u .rate) (u .mixes)) 0) _ _
+refused-empty u e = chosen (λ (x : Begun). x .session ≡ emptySession) (eqb (setupNumber (u .format) (u .rate) (u .rule) (u .mixes)) 0) _ _
     (λ z. absurd (true≢false (sym z ∙ e)))
     (λ _. refl)
 
@@ -80,18 +82,18 @@ still-empty u e none = refused-empty u e
 still-empty u e (then c r) = ap (λ (s : Session). afterCall s c) (still-empty u e r) ∙ empty-stays c
 
 -- ---- from any setup
-pub setup-answer : (u : Setup) → setupOf (u .format) (u .rate) (u .mixes) .number ≡ cond (accepted u) 0 1
+pub setup-answer : (u : Setup) → setupOf (u .format) (u .rate) (u .rule) (u .mixes) .number ≡ cond (accepted u) 0 1
 unfolding setupOf accepted
 setup-answer u = go (eqb n 0) refl
   where
     n : ℕ
-    n = setupNumber (u .format) (u .rate) (u .mixes)
+    n = setupNumber (u .format) (u .rate) (u .rule) (u .mixes)
 
     go : (b : Bool) → eqb n 0 ≡ b
-        → (cond {A = Begun} b (record { number = 0; session = setUpWith (u .format) (u .rate) (length (u .mixes)) (u .mixes) }) (record { number = n; session = emptySession })) .number
+        → (cond {A = Begun} b (record { number = 0; session = setUpWith (u .format) (u .rate) (u .rule) (length (u .mixes)) (u .mixes) }) (record { number = n; session = emptySession })) .number
         ≡ cond b 0 1
     go true e = refl
-    go false e = setup-1 (u .format) (u .rate) (u .mixes) (eqb-false n 0 e)
+    go false e = setup-1 (u .format) (u .rate) (u .rule) (u .mixes) (eqb-false n 0 e)
 
 pub next-answer : (u : Setup) {es : List Event} {t : Session} → Run (begun u) es t → (c : Call) → answerOf t c ≡ paper u es c
 unfolding paper

@@ -1,4 +1,4 @@
--- The runs of Story in which n mono fingerprints each hear a click and silence after it, and black frames are packed; and what any program that gives document
+-- The runs of Story, by rule 1, in which n mono fingerprints each hear a click and silence after it, and black frames are packed; and what any program that gives document
 -- 01's numbers has to say with one fingerprint at 24 Hz, in three containers with audio each.
 use Prim.Native.Nat.{ℕ, zero, suc, _+_, _*_, _/_, _%_, _≤_, _<_}
 use mathlib.Core.Path.{_≡_, refl, ap, ap₂, subst, _∙_}
@@ -22,12 +22,12 @@ use Rattle.floats.specs.declared.Instant.{Instant}
 use Rattle.floats.specs.declared.Instant.the-variants.{Mono}
 use Rattle.floats.specs.Instants.{hasNan}
 use Rattle.fingerprint.specs.State.{valuesOf}
-use Rattle.fingerprint.specs.History.{keptAmong, keptBits, bitIn}
+use Rattle.fingerprint.specs.History.{keptAmong, bitIn}
 use Rattle.fingerprint.specs.Paper.{soundAnswer, instantAnswer, heldAnswer, Right}
 use Rattle.container.specs.declared.Print.{Print}
 use Rattle.container.specs.Contents.{blankPrint}
 use Rattle.session.specs.Fingerprints.{allListed}
-use Rattle.session.specs.Session.{setupNumber}
+use Rattle.session.specs.Session.{ruleListed, setupNumber}
 use Rattle.demands.specs.Calls.{Setup, Call, sound, instant, pack}
 use Rattle.demands.specs.Paper.{samples, bytesDue, bitsPacked, everyHolds, audioAfter, sounded, instantSaid, said, accepted, Program, transcript}
 use Rattle.demands.specs.Demands.{Every, readBack, PrintRight, BitsRight, Demand3}
@@ -55,7 +55,7 @@ opening (suc n) = sound n silence ∷ sound n click ∷ opening n
 
 unfoldable pub played : ℕ → ℕ → ℕ → List ℕ
 played zero = nothing
-played (suc n) = hears n silence (hears n click (played n))
+played (suc n) = hears 1 n silence (hears 1 n click (played n))
 
 unfoldable pub first : ℕ → List Call
 first n = rows dark 16 (opening n)
@@ -71,16 +71,16 @@ unfolding played hears
 played-not zero mix k l = refl
 played-not (suc n) mix k l = rw (ne-eqb n k (omega arith)) (played-not n mix k (omega arith))
 
-hears-own : (j : ℕ) (b : List ℕ) (h : ℕ → ℕ → List ℕ) → hears j b h 1 j ≡ valuesOf 1 b ++ h 1 j
+hears-own : (j : ℕ) (b : List ℕ) (h : ℕ → ℕ → List ℕ) → hears 1 j b h 1 j ≡ valuesOf 1 1 b ++ h 1 j
 unfolding hears
 hears-own j b h = rw (eq-eqb j j refl) refl
 
-clicked : (n : ℕ) → hears n click (played n) 1 n ≡ 32767 ∷ 0 ∷ []
+clicked : (n : ℕ) → hears 1 n click (played n) 1 n ≡ 32767 ∷ 0 ∷ []
 clicked n = hears-own n click (played n) ∙ ap₂ (λ (x y : List ℕ). x ++ y) click-values (played-not n 1 n (omega arith))
 
 played-last : (n : ℕ) → played (suc n) 1 n ≡ faded 5998
 unfolding played
-played-last n = hears-own n silence (hears n click (played n)) ∙ (ap (λ (x : List ℕ). valuesOf 1 silence ++ x) (clicked n) ∙ all-values)
+played-last n = hears-own n silence (hears 1 n click (played n)) ∙ (ap (λ (x : List ℕ). valuesOf 1 1 silence ++ x) (clicked n) ∙ all-values)
 
 played-at : (n k : ℕ) → k < n → played n 1 k ≡ faded 5998
 unfolding played hears
@@ -108,7 +108,7 @@ pub record Spans (rate q : ℕ) : Type 0 where
 abbrev pub line16 : List (List ℕ)
 line16 = replicate 16 (pixels (rowOf 2) dark)
 
-module _ (n : ℕ) {rate : ℕ} {p : Program} (g : Follows rate (monos n) p) where
+module _ (n : ℕ) {rate : ℕ} {p : Program} (g : Follows 1 rate (monos n) p) where
   opening-at : intervalOf rate ≡ 50 → (j : ℕ) → j ≤ n → At g (opening j) [] no-frame (played j) 0 0
   unfolding opening played bitsPacked
   opening-at d zero l = start g
@@ -120,7 +120,7 @@ module _ (n : ℕ) {rate : ℕ} {p : Program} (g : Follows rate (monos n) p) whe
       one : soundAnswer (getD (monos n) j 0) (intervalOf rate) (played j (getD (monos n) j 0) j) (bitsPacked rate 0) click ≡ 0
       one = rw (getD-replicate {A = ℕ} n j 1 0 l, d, played-not j 1 j (omega arith)) click-taken
 
-      two : soundAnswer (getD (monos n) j 0) (intervalOf rate) (hears j click (played j) (getD (monos n) j 0) j) (bitsPacked rate 0) silence ≡ 0
+      two : soundAnswer (getD (monos n) j 0) (intervalOf rate) (hears 1 j click (played j) (getD (monos n) j 0) j) (bitsPacked rate 0) silence ≡ 0
       two = rw (getD-replicate {A = ℕ} n j 1 0 l, d, clicked j) silence-taken
 
   pub at-first : Spans rate 0 → At g (first n) (line16 ++ []) (a-frame (frameShows 2 (fields (line16 ++ [])))) (played n) 0 0
@@ -131,7 +131,7 @@ module _ (n : ℕ) {rate : ℕ} {p : Program} (g : Follows rate (monos n) p) whe
     pub holds : everyHolds (intervalOf rate) (bitsPacked rate q) (bytesDue rate q) (played n) 0 (monos n) ≡ true
     holds = rw (s .fifty) (all-held n (bitsPacked rate q) (bytesDue rate q) (s .fit))
 
-    pub has-audio : audioAfter (hd rate (monos n)) (sounded (hd rate (monos n)) (T g cs)) (T g cs) ≡ true
+    pub has-audio : audioAfter (hd 1 rate (monos n)) (sounded (hd 1 rate (monos n)) (T g cs)) (T g cs) ≡ true
     has-audio = audio-is g o true holds
 
     pub next-frame : isWaiting w ≡ true → length ls % 16 ≡ 0
@@ -145,10 +145,10 @@ module _ (n : ℕ) {rate : ℕ} {p : Program} (g : Follows rate (monos n) p) whe
 -- ---- 24 Hz: one fingerprint, and audio in the first, second and third container
 
 abbrev pub u : Setup
-u = hd 3 (monos 1)
+u = hd 1 3 (monos 1)
 
 pub is-accepted : accepted u ≡ true
-unfolding accepted setupNumber pairsWith rateListed allListed mixListed
+unfolding accepted setupNumber ruleListed pairsWith rateListed allListed mixListed
 is-accepted = refl
 
 pub spans : (q : ℕ) → q < 3 → Spans 3 q
@@ -162,13 +162,13 @@ spans (suc (suc (suc n))) l = absurd (let z : ⊥ = omega arith in z)
 abbrev pub still : Instant
 still = Mono (fin false 0 (pos 0))
 
-module _ {p : Program} (g : Follows 3 (monos 1) p) where
+module _ {p : Program} (g : Follows 1 3 (monos 1) p) where
   pub first-block : p u (T g []) (sound 0 click) .number ≡ 0
   unfolding intervalOf bitsPacked
   first-block = sound-0 g (start g) 0 (omega arith) click click-taken
 
   pub first-instant : p u (T g []) (instant 0 still) .number ≡ 0
-  unfolding transcript said instantSaid instantAnswer hasNan isNan samples sounded bitsPacked intervalOf keptBits keptAmong
+  unfolding transcript said instantSaid instantAnswer hasNan isNan samples sounded bitsPacked intervalOf keptAmong
   first-instant = number-is g [] (instant 0 still)
 
   pub at-1 : At g (first 1) (line16 ++ []) (a-frame (frameShows 2 (fields (line16 ++ [])))) (played 1) 0 0

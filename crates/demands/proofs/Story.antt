@@ -1,4 +1,4 @@
--- Small runs, to hold wrong programs against: 720p at any rate with any mix types, frames of one and the same line, each packed into 254 bytes.
+-- Small runs, to hold wrong programs against: 720p at any rate by any rule with any mix types, frames of one and the same line, each packed into 254 bytes.
 -- Of any program that gives document 01's numbers: the histories after its calls.
 use Prim.Native.Nat.{ℕ, zero, suc, _+_, _*_, _%_, _≤_, _<_}
 use mathlib.Core.Path.{_≡_, refl, sym, ap, _∙_}
@@ -28,14 +28,14 @@ use Rattle.demands.specs.Paper.{linesAt, lines, waitingAt, waiting, samp
 use Rattle.demands.proofs.Listed.{listed}
 use Rattle.demands.proofs.Packable.{said-sized, said-writes}
 
-abbrev pub hd : ℕ → List ℕ → Setup
-hd rate mixes = record { format = 2; rate = rate; mixes = mixes }
+abbrev pub hd : ℕ → ℕ → List ℕ → Setup
+hd rule rate mixes = record { format = 2; rate = rate; rule = rule; mixes = mixes }
 
 -- in such a setup, if it is accepted, the program gives document 01's numbers
-pub record Follows (rate : ℕ) (mixes : List ℕ) (p : Program) : Type 0 where
-  pub accepts : accepted (hd rate mixes) ≡ true
+pub record Follows (rule rate : ℕ) (mixes : List ℕ) (p : Program) : Type 0 where
+  pub accepts : accepted (hd rule rate mixes) ≡ true
   pub numbers : (cs : List Call) (c : Call)
-      → p (hd rate mixes) (transcript p (hd rate mixes) cs) c .number ≡ paper (hd rate mixes) (transcript p (hd rate mixes) cs) c .number
+      → p (hd rule rate mixes) (transcript p (hd rule rate mixes) cs) c .number ≡ paper (hd rule rate mixes) (transcript p (hd rule rate mixes) cs) c .number
 
 -- room for any container
 unfoldable pub room : List ℕ
@@ -62,8 +62,8 @@ paper-is u a es c = rw a refl
 abbrev pub nothing : ℕ → ℕ → List ℕ
 nothing mix k = []
 
-unfoldable pub hears : ℕ → List ℕ → (ℕ → ℕ → List ℕ) → ℕ → ℕ → List ℕ
-hears j b h mix k = cond (eqb j k) (valuesOf mix b ++ h mix k) (h mix k)
+unfoldable pub hears : ℕ → ℕ → List ℕ → (ℕ → ℕ → List ℕ) → ℕ → ℕ → List ℕ
+hears rule j b h mix k = cond (eqb j k) (valuesOf rule mix b ++ h mix k) (h mix k)
 
 -- ---- a row
 
@@ -102,9 +102,9 @@ fits : (u : Setup) → accepted u ≡ true → (es : List Event) → length (enc
 fits u a es = at-most-254 (contentsSaid u es []) (said-sized u (listed u a) es [])
 
 -- ---- the histories after the calls cs
-module _ {rate : ℕ} {mixes : List ℕ} {p : Program} (g : Follows rate mixes p) where
+module _ {rule rate : ℕ} {mixes : List ℕ} {p : Program} (g : Follows rule rate mixes p) where
   abbrev u : Setup
-  u = hd rate mixes
+  u = hd rule rate mixes
 
   abbrev pub T : List Call → List Event
   T cs = transcript p u cs
@@ -112,7 +112,7 @@ module _ {rate : ℕ} {mixes : List ℕ} {p : Program} (g : Follows rate mixes p
   pub record At (cs : List Call) (ls : List (List ℕ)) (w : Waiting) (h : ℕ → ℕ → List ℕ) (m q : ℕ) : Type 0 where
     pub taken : lines 2 (T cs) ≡ ls
     pub waits : waiting 2 (T cs) ≡ w
-    pub heard : samples (T cs) ≡ h
+    pub heard : samples rule (T cs) ≡ h
     pub packed : made (T cs) ≡ m
     pub spoken : sounded u (T cs) ≡ q
 
@@ -130,11 +130,11 @@ module _ {rate : ℕ} {mixes : List ℕ} {p : Program} (g : Follows rate mixes p
       unfolding said soundSaid
       sound-0 = number-is cs (sound j b) ∙ rw (lt-leb (length mixes) j l, o .heard, o .spoken) e
 
-      pub sound-at : At (sound j b ∷ cs) ls w (hears j b h) m q
+      pub sound-at : At (sound j b ∷ cs) ls w (hears rule j b h) m q
       unfolding transcript lines linesAt waiting waitingAt samples samplesAt made madeAt sounded soundedAt hears
       sound-at =
-          let one-more : samples (T (sound j b ∷ cs)) ≡ hears j b (samples (T cs)) = rw sound-0 refl in
-          record { taken = o .taken; waits = o .waits; heard = one-more ∙ ap (hears j b) (o .heard); packed = o .packed; spoken = o .spoken }
+          let one-more : samples rule (T (sound j b ∷ cs)) ≡ hears rule j b (samples rule (T cs)) = rw sound-0 refl in
+          record { taken = o .taken; waits = o .waits; heard = one-more ∙ ap (hears rule j b) (o .heard); packed = o .packed; spoken = o .spoken }
 
     -- the next row, while no frame waits
     pub row-number-0 : (k : ℕ) → k < 16 → length ls % 16 ≡ k → w ≡ no-frame → (b : List ℕ) → length b ≡ 2560 → said u (T cs) (line (117 + 32 * k) b) .number ≡ 0

@@ -12,15 +12,16 @@ use Rattle.container.specs.Reading.{reading}
 use Rattle.demands.specs.Calls.{Setup, line, pack, Answer}
 use Rattle.demands.specs.Paper.{accepted, Program, transcript}
 use Rattle.demands.specs.Demands.{readBack, Demand2, Demand3}
-use Rattle.demands.specs.Programs.{RightNumbers, RefusesLines, RefusesSound, RefusesInstants, RefusesPacks, TellsAlways, Exchanges, ShowsAlways, Speaks, SpeaksAlways, PacksAlways, Forgets, Repeats, Invents, Claims}
-use Rattle.demands.specs.Examples.{refusing, telling, exchanging, showing, speaking, packing, forgetting, repeating, inventing, claiming}
+use Rattle.demands.specs.Programs.{RightNumbers, RefusesLines, RefusesSound, RefusesInstants, RefusesPacks, TellsAlways, Exchanges, ShowsAlways, Speaks, SpeaksAlways, PacksAlways, IgnoresRule, Forgets, Repeats, Invents, Claims}
+use Rattle.demands.specs.Examples.{refusing, telling, exchanging, showing, speaking, packing, unruled, forgetting, repeating, inventing, claiming}
 use Rattle.demands.proofs.Fade.{click}
 use Rattle.demands.proofs.Story.{room}
 use Rattle.demands.proofs.Shots.{dark, first, second, third, u, is-accepted, still, first-block, first-instant, packs-1, packs-2, packs-3, audio-1, audio-3, never-both}
 use Rattle.demands.proofs.Against.{as-said, right-numbers, follows, followed, bits-too, counts, spoken, speaks, reads-same, speaks-same, second-is-first, third-is-first, first-some}
 use Rattle.demands.proofs.Pictured.{first-row, not-again, gives-0, gives-brighter, gives-darker, exchanged-is, told-is, shown-is}
+use Rattle.demands.proofs.OneRule.{ignores}
 use Rattle.demands.proofs.Invented.{two, in-one-first, in-two-first, in-two-second, of-two-first, of-two-second, one-first-is, two-first-is, two-second-is}
-use Rattle.demands.proofs.Examples.{refusing-refuses, telling-tells, exchanging-exchanges, showing-shows, speaking-speaks, speaking-numbers, packing-packs, packing-numbers, forgetting-forgets, repeating-repeats, repeating-numbers, inventing-invents, claiming-claims}
+use Rattle.demands.proofs.Examples.{refusing-refuses, telling-tells, exchanging-exchanges, showing-shows, speaking-speaks, speaking-numbers, packing-packs, packing-numbers, unruled-ignores, forgetting-forgets, repeating-repeats, repeating-numbers, inventing-invents, claiming-claims}
 
 -- "one that refuses everything (shut out by demand 2, as the table says when to accept)": the first row of the first frame is accepted
 pub refusing-lines-2 : (p : Program) → RefusesLines p → Demand2 p → ⊥
@@ -104,6 +105,10 @@ repeating-3 p r n d =
     let s = speaks c (first-some p r g) in
     never-both g d (spoken c) s (subst (λ (x : Reading). Speaks (spoken c) (x .contents)) (sym (third-is-first p r g)) s)
 
+-- one that mixes by one rule, whatever was set up (02, A9)
+pub one-rule-2 : (p : Program) → IgnoresRule p → Demand2 p → ⊥
+one-rule-2 = ignores
+
 -- "one with invented Length, AFDataCount, fingerprint count or written size (demand 2)". Two fingerprints at 25 Hz: the first container has 15 bytes after its
 -- Length, the second 17
 pub invented-length : (p : Program) (x : Setup → ℕ) → Invents 2 x p → Demand2 p → ⊥
@@ -155,6 +160,9 @@ some-container bytes = (packing-packs bytes, packing-numbers bytes)
 
 pub some-forgetting : Forgets forgetting
 some-forgetting = forgetting-forgets
+
+pub some-one-rule : IgnoresRule unruled
+some-one-rule = unruled-ignores
 
 pub some-repeating : Repeats repeating × RightNumbers repeating
 some-repeating = (repeating-repeats, repeating-numbers)

@@ -13,6 +13,7 @@ use Rattle.session.specs.Packing.{packOf, packOut}
 pub record Setup : Type 0 where
   pub format : ℕ
   pub rate : ℕ
+  pub rule : ℕ
   pub mixes : List ℕ
 
 -- line number n with its bytes; a block of fingerprint k; an instant of it in floating point; the bytes lent for the ID and the buffer lent for the container; the restarts
@@ -46,7 +47,7 @@ calls (e ∷ es) = e .call ∷ calls es
 -- ---- By the contracts of `session`
 
 unfoldable pub begun : Setup → Session
-begun u = setupOf (u .format) (u .rate) (u .mixes) .session
+begun u = setupOf (u .format) (u .rate) (u .rule) (u .mixes) .session
 
 unfoldable pub answerOf : Session → Call → Answer
 answerOf s (line n b) = record { number = lineOf s n b .number; told = lineOf s n b .told; written = 0; out = [] }

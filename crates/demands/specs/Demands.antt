@@ -84,7 +84,7 @@ ReadsBack u es audio-restart a = Unit {0}
 -- last audio restart; that sample has been accepted; and the bit is right against the exact values over the samples up to that one (`AllRight`, `Right`)
 abbrev pub PrintRight : Setup → List Event → Print → Type 0
 PrintRight u es p =
-    AllRight (intervalOf (u .rate)) (samples es (getD (u .mixes) (p .id) 0) (p .id)) (bitsPacked (u .rate) (sounded u es)) (p .bytes) (p .size)
+    AllRight (intervalOf (u .rate)) (samples (u .rule) es (getD (u .mixes) (p .id) 0) (p .id)) (bitsPacked (u .rate) (sounded u es)) (p .bytes) (p .size)
 
 abbrev pub ContainerRight : Setup → List Event → Contents → Type 0
 ContainerRight u es c = (k : ℕ) → k < c .count → PrintRight u es (getD (c .prints) k blankPrint)

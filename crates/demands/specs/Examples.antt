@@ -13,8 +13,10 @@ use Rattle.laws.specs.declared.Video.{Video}
 use Rattle.laws.specs.declared.Video.the-variants.{Absent, One, Two}
 use Rattle.container.specs.declared.Contents.{Contents}
 use Rattle.container.specs.Bytes.{encode}
+use Rattle.session.specs.Session.{ruleListed}
 use Rattle.demands.specs.Calls.{Setup, Call, line, sound, instant, pack, video-restart, audio-restart, Answer, Event}
 use Rattle.demands.specs.Paper.{made, contentsSaid, saidEmpty, paper, Program}
+use Rattle.demands.specs.Rules.{byRule}
 use Rattle.demands.specs.Programs.{newest}
 
 -- every call as in an empty session
@@ -95,6 +97,10 @@ speaking xs u es c = altering (withAudio (xs u)) u es c
 
 unfoldable pub packing : (Setup → List ℕ) → Program
 packing bytes u es c = withBytes (bytes u) c (paper u es c)
+
+-- every sound by rule 1
+unfoldable pub unruled : Program
+unruled u es c = cond (ruleListed (u .rule)) (paper (byRule 1 u) es c) (saidEmpty c)
 
 unfoldable pub forgetting : Program
 forgetting u es c = paper u [] c

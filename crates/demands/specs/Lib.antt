@@ -2,6 +2,7 @@
 pub mod Calls
 pub mod Paper
 pub mod Demands
+pub mod Rules
 pub mod Blocks
 pub mod Programs
 pub mod Examples

@@ -1,4 +1,4 @@
--- Document 01, with 02's A1, A2, A3 and A7, as a function of what was set up and of the calls and answers so far: no slot, no store of bits, no wait, no counter and no place is kept.
+-- Document 01, with 02's A1, A2, A3, A7 and A9, as a function of what was set up and of the calls and answers so far: no slot, no store of bits, no wait, no counter and no place is kept.
 use Prim.Native.Nat.{ℕ, zero, suc, _+_, _-_, _*_, _%_}
 use mathlib.Core.Bool.{Bool, true, cond, _&&_}
 use mathlib.Core.List.{List, [], _∷_, _++_}
@@ -49,18 +49,19 @@ unfoldable pub waiting : ℕ → List Event → Waiting
 waiting f [] = no-frame
 waiting f (e ∷ es) = waitingAt f (e .call) (e .answer) (lines f (e ∷ es)) (waiting f es)
 
--- the mixed samples of fingerprint k, of a mix type, accepted since setup or the last audio restart
-unfoldable pub samplesAt : Call → Answer → ℕ → ℕ → List ℕ → List ℕ
-samplesAt (line n b) a mix k h = h
-samplesAt (sound j b) a mix k h = cond (eqb (a .number) 0 && eqb j k) (valuesOf mix b ++ h) h
-samplesAt (instant j i) a mix k h = cond (eqb (a .number) 0 && eqb j k) (floatValue i ∷ h) h
-samplesAt (pack id out) a mix k h = h
-samplesAt video-restart a mix k h = h
-samplesAt audio-restart a mix k h = []
+-- the samples of fingerprint k, of a mix type, mixed by a rule, accepted since setup or the last audio restart
+unfoldable pub samplesAt : ℕ → Call → Answer → ℕ → ℕ → List ℕ → List ℕ
+samplesAt rule (line n b) a mix k h = h
+samplesAt rule (sound j b) a mix k h = cond (eqb (a .number) 0 && eqb j k) (valuesOf rule mix b ++ h) h
+samplesAt rule (instant j i) a mix k h = cond (eqb (a .number) 0 && eqb j k) (floatValue rule i ∷ h) h
+samplesAt rule (pack id out) a mix k h = h
+samplesAt rule video-restart a mix k h = h
+samplesAt rule audio-restart a mix k h = []
 
-unfoldable pub samples : List Event → ℕ → ℕ → List ℕ
-samples [] mix k = []
-samples (e ∷ es) mix k = samplesAt (e .call) (e .answer) mix k (samples es mix k)
+-- "Demand 2 means the session's own rule, and demand 3 starts from its samples" (02, A9)
+unfoldable pub samples : ℕ → List Event → ℕ → ℕ → List ℕ
+samples rule [] mix k = []
+samples rule (e ∷ es) mix k = samplesAt rule (e .call) (e .answer) mix k (samples rule es mix k)
 
 -- the containers since setup
 unfoldable pub madeAt : Call → Answer → ℕ → ℕ
@@ -93,7 +94,7 @@ everyHolds d taken n h k (mix ∷ mixes) = heldAnswer d (h mix k) taken n && eve
 
 -- "Audio is present exactly when every fingerprint holds the whole bytes the cadence asks for"
 unfoldable pub audioAfter : Setup → ℕ → List Event → Bool
-audioAfter u p es = everyHolds (intervalOf (u .rate)) (bitsPacked (u .rate) p) (bytesDue (u .rate) p) (samples es) 0 (u .mixes)
+audioAfter u p es = everyHolds (intervalOf (u .rate)) (bitsPacked (u .rate) p) (bytesDue (u .rate) p) (samples (u .rule) es) 0 (u .mixes)
 
 -- the containers with audio since setup or the last audio restart
 unfoldable pub soundedAt : Call → Answer → Bool → ℕ → ℕ
@@ -117,7 +118,7 @@ printsSaid d taken n h k (mix ∷ mixes) =
     record { id = k; mix = mix; size = n; bytes = bytesFrom d (h mix k) taken n ++ replicate (5 - n) 0 } ∷ printsSaid d taken n h (suc k) mixes
 
 unfoldable pub audioSaid : Setup → ℕ → List Event → List Print
-audioSaid u p es = printsSaid (intervalOf (u .rate)) (bitsPacked (u .rate) p) (bytesDue (u .rate) p) (samples es) 0 (u .mixes)
+audioSaid u p es = printsSaid (intervalOf (u .rate)) (bitsPacked (u .rate) p) (bytesDue (u .rate) p) (samples (u .rule) es) 0 (u .mixes)
 
 -- "The counter starts at 0, grows by one per container, and goes from 255 to 0"; the video values are those of the frame that waits
 unfoldable pub contentsSaid : Setup → List Event → List ℕ → Contents
@@ -141,13 +142,13 @@ lineSaid f ls w n b = record { number = numberSaid f ls w n b; told = toldSaid f
 unfoldable pub soundSaid : Setup → List Event → ℕ → List ℕ → ℕ
 soundSaid u es k b =
     cond (leb (length (u .mixes)) k) 7
-    (soundAnswer (getD (u .mixes) k 0) (intervalOf (u .rate)) (samples es (getD (u .mixes) k 0) k) (bitsPacked (u .rate) (sounded u es)) b)
+    (soundAnswer (getD (u .mixes) k 0) (intervalOf (u .rate)) (samples (u .rule) es (getD (u .mixes) k 0) k) (bitsPacked (u .rate) (sounded u es)) b)
 
 -- "14 .., after 7 and before 9"
 unfoldable pub instantSaid : Setup → List Event → ℕ → Instant → ℕ
 instantSaid u es k i =
     cond (leb (length (u .mixes)) k) 7
-    (instantAnswer (getD (u .mixes) k 0) (intervalOf (u .rate)) (samples es (getD (u .mixes) k 0) k) (bitsPacked (u .rate) (sounded u es)) i)
+    (instantAnswer (getD (u .mixes) k 0) (intervalOf (u .rate)) (samples (u .rule) es (getD (u .mixes) k 0) k) (bitsPacked (u .rate) (sounded u es)) i)
 
 -- "10 no ready frame; 11 ID length neither 0 nor 20" (`readyNumber`); then what Write answers for these contents, "12" being its (02, A7)
 unfoldable pub packedSaid : ℕ → Contents → List ℕ → Answer
@@ -175,7 +176,7 @@ saidEmpty audio-restart = saying 0
 
 -- "a refused setup gives an empty one"
 unfoldable pub accepted : Setup → Bool
-accepted u = eqb (setupNumber (u .format) (u .rate) (u .mixes)) 0
+accepted u = eqb (setupNumber (u .format) (u .rate) (u .rule) (u .mixes)) 0
 
 unfoldable pub paper : Setup → List Event → Call → Answer
 paper u es c = cond (accepted u) (said u es c) (saidEmpty c)

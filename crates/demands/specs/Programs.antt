@@ -16,6 +16,7 @@ use Rattle.container.specs.Contents.{blankPrint}
 use Rattle.demands.specs.Calls.{Setup, Call, line, sound, instant, pack, video-restart, audio-restart, Answer, Event}
 use Rattle.demands.specs.Paper.{made, audioAfter, sounded, contentsSaid, paper, Program, transcript}
 use Rattle.demands.specs.Demands.{readBack}
+use Rattle.demands.specs.Rules.{byRule}
 
 -- after any calls from any setup, es being what the program has answered to them
 abbrev pub Throughout : Program → (Setup → List Event → Type 0) → Type 0
@@ -74,6 +75,11 @@ SpeaksAlways xs p = Throughout p (λ u es. (id out : List ℕ) → Bytes id → 
 
 abbrev pub PacksAlways : (Setup → List ℕ) → Program → Type 0
 PacksAlways bytes p = Throughout p (λ u es. (id out : List ℕ) → p u es (pack id out) .number ≡ 0 → bytesIn (p u es (pack id out)) ≡ bytes u)
+
+-- ---- one that mixes by one rule, whatever was set up (02, A9): by rule 2 it answers as by rule 1
+
+abbrev pub IgnoresRule : Program → Type 0
+IgnoresRule p = (u : Setup) (es : List Event) (c : Call) → p (byRule 2 u) es c ≡ p (byRule 1 u) es c
 
 -- ---- "one that hands the session back untouched": every call is answered as the first after setup
 

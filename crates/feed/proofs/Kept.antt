@@ -45,7 +45,7 @@ use Rattle.feed.specs.declared.Answered.{Answered}
 use Rattle.answers.specs.Lines.{untouched, fresh, isUntouched, Quiet}
 use Rattle.feed.specs.Alone.{Reply, inWork, roomAt, sampleLent, sampleIn, sampleFed, readFed, rewriteDone, rewriteOut, writeLent, lentFed, roomIn, roomFed, aloneFed}
 use Rattle.feed.specs.Values.{instantIn}
-use Rattle.feed.specs.Calls.{Step, begun, lined, sounded, instanted, doneOf, packed, setupFed, lineFed, soundFed, packIn, packFed, restartFed, instantWith, instantFed, sessionFed}
+use Rattle.feed.specs.Calls.{Step, begun, lined, sounded, instanted, doneOf, packed, setupFed, ruledFed, lineFed, soundFed, packIn, packFed, restartFed, instantWith, instantFed, sessionFed}
 use Rattle.feed.specs.Feed.{leaves, fed, recordFed, front}
 use Rattle.answers.proofs.Watch.{untouched-is, untouched-size, untouched-drop, work-size, work-untouched}
 use Rattle.feed.proofs.Rooms.{room-most}
@@ -232,7 +232,7 @@ instant-held s k (brought.Of i) = none-held (Instant (instantOf s k i .number)) 
 instant-held s k (brought.Not cause) = bad-held cause
 
 session-held : (s : Session) (tag : ℕ) (p : List ℕ) → HeldStep (sessionFed s tag p)
-unfolding sessionFed setupFed begun lineFed lined soundFed sounded packFed restartFed instantFed Quiet
+unfolding sessionFed setupFed ruledFed begun lineFed lined soundFed sounded packFed restartFed instantFed Quiet
 session-held s tag p =
     chosen HeldStep (eqb tag 0x10) _ _ (λ _. plain-held (leb 2 (length p)) _ _ (omega arith) (omega arith))
     (λ _. chosen HeldStep (eqb tag 0x11) _ _ (λ _. plain-held (leb 2 (length p)) _ _ (omega arith) (omega arith))
@@ -241,7 +241,8 @@ session-held s tag p =
     (λ _. chosen HeldStep (eqb tag 0x14) _ _ (λ _. plain-held (eqb (length p) 0) _ _ (omega arith) (omega arith))
     (λ _. chosen HeldStep (eqb tag 0x15) _ _ (λ _. plain-held (eqb (length p) 0) _ _ (omega arith) (omega arith))
     (λ _. chosen HeldStep (eqb tag 0x16) _ _ (λ _. instant-held s (byteAt p 0) (instantIn p))
-    (λ _. bad-held (UnknownTag tag))))))))
+    (λ _. chosen HeldStep (eqb tag 0x17) _ _ (λ _. plain-held (leb 3 (length p)) _ _ (omega arith) (omega arith))
+    (λ _. bad-held (UnknownTag tag)))))))))
 
 fed-held : (s : Session) (tag : ℕ) (p : List ℕ) → HeldStep (fed s tag p)
 unfolding fed leaves

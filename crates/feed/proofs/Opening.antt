@@ -5,7 +5,7 @@ use Rattle.rates.specs.Rates.{pairsWith}
 use Rattle.session.specs.Session.{setupNumber, setupOf, emptySession}
 use Rattle.feed.specs.Feed.{opening}
 
-pub opening-refused : setupOf 0 0 [] .number ≡ 1
+pub opening-refused : setupOf 0 0 0 [] .number ≡ 1
 unfolding setupOf setupNumber pairsWith
 opening-refused = refl
 

@@ -1,4 +1,4 @@
--- The calls on a session: tags 10h to 16h (FEED's table).
+-- The calls on a session: tags 10h to 17h (FEED's table).
 use Prim.Native.Nat.{ℕ}
 use mathlib.Core.List.{List}
 use mathlib.Core.Bool.{cond}
@@ -65,9 +65,13 @@ packed p = answers (Handed Pack (doneOf p)) (p .session)
 
 -- ---- the records
 
--- 10h: "format, rate code, then the mix types (0 or more bytes)"
+-- 10h: "format, rate code, then the mix types (0 or more bytes)"; "10h stays: rule 1"
 unfoldable pub setupFed : Session → List ℕ → Answered
-setupFed s p = cond (leb 2 (length p)) (begun (setupOf (byteAt p 0) (byteAt p 1) (drop 2 p))) (badFed s TooShort)
+setupFed s p = cond (leb 2 (length p)) (begun (setupOf (byteAt p 0) (byteAt p 1) 1 (drop 2 p))) (badFed s TooShort)
+
+-- 17h: "format, rate code, rule, then the mix types (0 or more bytes)"; "Setup with a rule"
+unfoldable pub ruledFed : Session → List ℕ → Answered
+ruledFed s p = cond (leb 3 (length p)) (begun (setupOf (byteAt p 0) (byteAt p 1) (byteAt p 2) (drop 3 p))) (badFed s TooShort)
 
 -- 11h: "u16 line number, the line's bytes"
 unfoldable pub lineFed : Session → List ℕ → Answered
@@ -106,4 +110,5 @@ sessionFed s tag p =
     (cond (eqb tag 0x14) (step (restartFed s (videoRestarted s) VideoRestart p) fresh)
     (cond (eqb tag 0x15) (step (restartFed s (audioRestarted s) AudioRestart p) fresh)
     (cond (eqb tag 0x16) (step (instantFed s p) fresh)
-    (step (badFed s (UnknownTag tag)) fresh)))))))
+    (cond (eqb tag 0x17) (step (ruledFed s p) fresh)
+    (step (badFed s (UnknownTag tag)) fresh))))))))

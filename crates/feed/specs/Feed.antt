@@ -16,9 +16,9 @@ use Rattle.answers.specs.Lines.{fresh, lineOf}
 use Rattle.feed.specs.Alone.{Reply, aloneFed}
 use Rattle.feed.specs.Calls.{Step, step, answers, badFed, sessionFed}
 
--- "before the first 10h the session is that of a refused setup"
+-- "before the first of them the session is that of a refused setup"
 unfoldable pub opening : Session
-opening = setupOf 0 0 [] .session
+opening = setupOf 0 0 0 [] .session
 
 unfoldable pub leaves : Session → Reply → Step
 leaves s r = step (answers (r .answer) s) (r .left)

@@ -1,7 +1,8 @@
-// The calls on a session: tags 10h to 16h.
+// The calls on a session: tags 10h to 17h.
 ghost use mathlib.Core.Path.{_≡_};
 ghost use Rattle.answers.specs.Lines.{fresh};
-ghost use Rattle.feed.specs.Calls.{badFed, setupFed, lineFed, soundFed, packFed, restartFed, instantFed, sessionFed};
+ghost use Rattle.session.specs.Session.{setupOf};
+ghost use Rattle.feed.specs.Calls.{badFed, begun, setupFed, ruledFed, lineFed, soundFed, packFed, restartFed, instantFed, sessionFed};
 use crate::Answered;
 use crate::Brought;
 use crate::Room;
@@ -22,18 +23,35 @@ pub(crate) fn bad(s: Session, cause: Cause) -> Answered
     }
 }
 
+fn begin(format: u8, rate: u8, rule: u8, mixes: &[u8]) -> Answered
+    ensures { λ r. ⌜ r ≡ begun (setupOf format rate rule (now (mixes .entry))) ⌝ }
+{
+    let b = session::setup(format, rate, rule, mixes);
+    let next = b.session;
+    Answered {
+        answer: Answer::Setup(b.number),
+        session: next,
+    }
+}
+
+// Setup by rule 1.
 fn setup(s: Session, payload: &[u8]) -> Answered
     ensures { λ r. ⌜ r ≡ setupFed s (now (payload .entry)) ⌝ }
 {
     if payload.len() < 2 {
         return bad(s, Cause::TooShort);
     }
-    let b = session::setup(payload[0], payload[1], &payload[2..]);
-    let next = b.session;
-    Answered {
-        answer: Answer::Setup(b.number),
-        session: next,
+    begin(payload[0], payload[1], 1, &payload[2..])
+}
+
+// Setup by the rule that the record names.
+fn ruled(s: Session, payload: &[u8]) -> Answered
+    ensures { λ r. ⌜ r ≡ ruledFed s (now (payload .entry)) ⌝ }
+{
+    if payload.len() < 3 {
+        return bad(s, Cause::TooShort);
     }
+    begin(payload[0], payload[1], payload[2], &payload[3..])
 }
 
 fn line(s: Session, payload: &[u8]) -> Answered
@@ -143,6 +161,9 @@ pub(crate) fn on_session(s: Session, tag: u8, payload: &[u8], work: &mut [u8]) -
     }
     if tag == 0x16 {
         return instant(s, payload);
+    }
+    if tag == 0x17 {
+        return ruled(s, payload);
     }
     bad(s, Cause::UnknownTag(tag))
 }

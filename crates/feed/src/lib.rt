@@ -42,7 +42,7 @@ pub fn open() -> Session
     ensures { λ r. ⌜ r ≡ opening ⌝ }
 {
     let none = [0u8; 1];
-    let b = session::setup(0, 0, &none[..0]);
+    let b = session::setup(0, 0, 0, &none[..0]);
     b.session
 }
 

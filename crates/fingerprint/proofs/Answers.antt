@@ -6,19 +6,18 @@ use mathlib.Core.Bool.{Bool, true, false, _&&_}
 use native.Mathlib.Nat.{mul-le-mul-right}
 use native.Mathlib.Omega.{arith}
 use lib.Dec.{leb, ltb}
-use lib.ListN.{length, getD, take, replicate, length-append, List·getD-append}
+use lib.ListN.{length, getD, take, replicate, List·getD-append}
 use lib.Seq.{take-suc, getD-take, length-take-le}
 use Rattle.sound.specs.Exact.{exactEnvelope, exactMean, Near}
 use Rattle.laws.proofs.Tests.{same-test}
 use Rattle.sound.proofs.Exact.{envelope-near, mean-near, bit-one, bit-zero}
 use Rattle.floats.specs.declared.Instant.{Instant}
 use Rattle.fingerprint.specs.declared.Fingerprint.{Fingerprint}
-use Rattle.fingerprint.specs.State.{newBits, instants, valuesOf, soundNumber, instantNumber, holdsOf, firstBytes, canTake, takeOf}
+use Rattle.fingerprint.specs.State.{newBits, instants, soundNumber, instantNumber, holdsOf, firstBytes, canTake, takeOf}
 use Rattle.fingerprint.specs.History.{upTo, bitAt, keptAmong, keptBits, bitsFrom, fromBits, bytesFrom, bitIn, Holds}
 use Rattle.fingerprint.specs.Paper.{soundAnswer, instantAnswer, heldAnswer, leaveAnswer, bytesAnswer, Right, AllRight}
 use Rattle.fingerprint.proofs.Bits.{bit, bit-at, byte-is}
 use Rattle.fingerprint.proofs.History.{holds-kept, held-with}
-use Rattle.fingerprint.proofs.Steps.{length-values}
 use Rattle.fingerprint.proofs.Taking.{can-take-room}
 
 -- n bits above 256, and with those that have left the bits kept above 256 and these
@@ -27,17 +26,14 @@ above taken n kept e = same-test 257 n (suc (256 + taken)) kept (λ l. omega ari
 
 module _ (mix d : ℕ) (h : List ℕ) (taken : ℕ) (f : Fingerprint) (H : Holds mix d h taken f) where
   pub sound-paper : (block : List ℕ) → soundNumber d f (length block) ≡ soundAnswer mix d h taken block
-  unfolding soundNumber soundAnswer keptBits valuesOf
+  unfolding soundNumber soundAnswer
   sound-paper block =
       let n : ℕ = instants mix (length block) in
-      let e : length (valuesOf mix block ++ h) ≡ n + length h =
-      length-append (valuesOf mix block) h ∙ ap (λ (m : ℕ). m + length h) (length-values mix block 0 n) in
-      let s = above taken (f .held + newBits d (f .wait) n) (keptAmong d (length (valuesOf mix block ++ h)))
-      (held-with mix d h taken f H n ∙ ap (keptAmong d) (sym e)) in
+      let s = above taken (f .held + newBits d (f .wait) n) (keptAmong d (n + length h)) (held-with mix d h taken f H n) in
       rw (H .mix-type, s)
 
   pub instant-paper : (i : Instant) → instantNumber d f i ≡ instantAnswer mix d h taken i
-  unfolding instantNumber instantAnswer keptBits
+  unfolding instantNumber instantAnswer
   instant-paper i =
       let s = above taken (f .held + newBits d (f .wait) 1) (keptAmong d (suc (length h))) (held-with mix d h taken f H 1 ∙ ap (keptAmong d) (omega arith)) in
       rw (H .mix-type, s)

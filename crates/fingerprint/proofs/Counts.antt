@@ -180,6 +180,6 @@ empty-accepted d f h =
     let none : instants (f .mix) 0 ≡ 0 = zero-div (instantBytes (f .mix)) in
     sym (number-0 d f 0 (eq-eqb (0 % instantBytes (f .mix)) 0 (zero-mod (instantBytes (f .mix)))) (rw none (omega arith)))
 
-pub empty-heard : (d : ℕ) (f : Fingerprint) → heardOf d f [] ≡ f
+pub empty-heard : (rule d : ℕ) (f : Fingerprint) → heardOf rule d f [] ≡ f
 unfolding heardOf valuesOf valuesAt instants after
-empty-heard d f = rw (zero-div (instantBytes (f .mix)))
+empty-heard rule d f = rw (zero-div (instantBytes (f .mix)))

@@ -196,11 +196,12 @@ module _ (mix d : ℕ) (h : List ℕ) (taken : ℕ) (f : Fingerprint) (H : Holds
       holds-step mix d (xs ++ h) taken (after d f xs) before a (still-free xs (after d f xs) fit before)
 
   -- a block
-  pub holds-heard : (block : List ℕ) → f .held + newBits d (f .wait) (instants mix (length block)) ≤ 256 → Holds mix d (valuesOf mix block ++ h) taken (heardOf d f block)
+  pub holds-heard : (rule : ℕ) (block : List ℕ) → f .held + newBits d (f .wait) (instants mix (length block)) ≤ 256
+      → Holds mix d (valuesOf rule mix block ++ h) taken (heardOf rule d f block)
   unfolding heardOf valuesOf
-  holds-heard block fit =
-      subst (λ (m : ℕ). Holds mix d (valuesOf mix block ++ h) taken (after d f (valuesOf m block))) (sym (H .mix-type))
-      (holds-after (valuesOf mix block) (rw (length-values mix block 0 (instants mix (length block))) fit))
+  holds-heard rule block fit =
+      subst (λ (m : ℕ). Holds mix d (valuesOf rule mix block ++ h) taken (after d f (valuesOf rule m block))) (sym (H .mix-type))
+      (holds-after (valuesOf rule mix block) (rw (length-values rule mix block 0 (instants mix (length block))) fit))
 
 -- n whole bytes leave
 pub holds-taken : (mix d : ℕ) (h : List ℕ) (taken : ℕ) (f : Fingerprint) → Holds mix d h taken f → (n : ℕ) → 8 * n ≤ f .held → Holds mix d h (taken + 8 * n) (without f n)
@@ -225,18 +226,18 @@ holds-taken mix d h taken f H n fit = record {
 
 module _ (mix d : ℕ) (h : List ℕ) (taken : ℕ) (f : Fingerprint) (H : Holds mix d h taken f) where
   -- a block, heard where its number is 0
-  pub holds-sound : (block : List ℕ) (b : Bool) → eqb (soundNumber d f (length block)) 0 ≡ b
-      → Holds mix d (cond b (valuesOf mix block ++ h) h) taken (cond b (heardOf d f block) f)
-  holds-sound block false e = H
-  holds-sound block true e =
+  pub holds-sound : (rule : ℕ) (block : List ℕ) (b : Bool) → eqb (soundNumber d f (length block)) 0 ≡ b
+      → Holds mix d (cond b (valuesOf rule mix block ++ h) h) taken (cond b (heardOf rule d f block) f)
+  holds-sound rule block false e = H
+  holds-sound rule block true e =
       let room = number-fits d f (length block) (eqb-true (soundNumber d f (length block)) 0 e) in
-      holds-heard mix d h taken f H block
+      holds-heard mix d h taken f H rule block
       (subst (λ (m : ℕ). f .held + newBits d (f .wait) (instants m (length block)) ≤ 256) (H .mix-type) room)
 
   -- an instant whose number is 0
-  pub holds-instant : (i : Instant) → instantNumber d f i ≡ 0 → Holds mix d (floatValue i ∷ h) taken (stepOf d f (floatValue i))
+  pub holds-instant : (rule : ℕ) (i : Instant) → instantNumber d f i ≡ 0 → Holds mix d (floatValue rule i ∷ h) taken (stepOf d f (floatValue rule i))
   unfolding instantNumber after
-  holds-instant i e = holds-after mix d h taken f H (floatValue i ∷ []) (store-fits (f .held) d (f .wait) 1 (go (refusedBy (f .mix) i) e))
+  holds-instant rule i e = holds-after mix d h taken f H (floatValue rule i ∷ []) (store-fits (f .held) d (f .wait) 1 (go (refusedBy (f .mix) i) e))
     where
       go : (t : Bool) → cond t 14 (storeNumber (f .held) d (f .wait) 1) ≡ 0 → storeNumber (f .held) d (f .wait) 1 ≡ 0
       go true z = absurd (let no : ⊥ = omega arith in no)

@@ -45,28 +45,29 @@ unfolding after
 after-append d f [] ys = refl
 after-append d f (a ∷ xs) ys = ap (λ (x : Fingerprint). stepOf d x a) (after-append d f xs ys)
 
-pub length-values : (mix : ℕ) (block : List ℕ) (at n : ℕ) → length (valuesAt mix block at n) ≡ n
+pub length-values : (rule mix : ℕ) (block : List ℕ) (at n : ℕ) → length (valuesAt rule mix block at n) ≡ n
 unfolding valuesAt
-length-values mix block at zero = refl
-length-values mix block at (suc n) = ap suc (length-values mix block at n)
+length-values rule mix block at zero = refl
+length-values rule mix block at (suc n) = ap suc (length-values rule mix block at n)
 
-pub values-more : (mix : ℕ) (block : List ℕ) (at m n : ℕ) → valuesAt mix block at (m + n) ≡ valuesAt mix block (at + m * instantBytes mix) n ++ valuesAt mix block at m
+pub values-more : (rule mix : ℕ) (block : List ℕ) (at m n : ℕ)
+    → valuesAt rule mix block at (m + n) ≡ valuesAt rule mix block (at + m * instantBytes mix) n ++ valuesAt rule mix block at m
 unfolding valuesAt
-values-more mix block at m zero = rw add-zero
-values-more mix block at m (suc n) =
+values-more rule mix block at m zero = rw add-zero
+values-more rule mix block at m (suc n) =
     let e : at + (m + n) * instantBytes mix ≡ at + m * instantBytes mix + n * instantBytes mix = omega arith in
-    rw (add-suc, e, values-more mix block at m n)
+    rw (add-suc, e, values-more rule mix block at m n)
 
 -- n samples of a block of which none is kept, after the first i
-pub run-on : (d : ℕ) (f g : Fingerprint) (v v′ : Filters) (w mix : ℕ) (block : List ℕ) (at i n : ℕ)
-    → withFiltersOf g v w ≡ after d f (valuesAt mix block 0 i) → at ≡ i * instantBytes mix → n ≤ w → v′ ≡ throughOf v (valuesAt mix block at n)
-    → withFiltersOf g v′ (w - n) ≡ after d f (valuesAt mix block 0 (i + n))
-run-on d f g v v′ w mix block at i n before place l next =
-    let h = valuesAt mix block at n in
+pub run-on : (d : ℕ) (f g : Fingerprint) (v v′ : Filters) (w rule mix : ℕ) (block : List ℕ) (at i n : ℕ)
+    → withFiltersOf g v w ≡ after d f (valuesAt rule mix block 0 i) → at ≡ i * instantBytes mix → n ≤ w → v′ ≡ throughOf v (valuesAt rule mix block at n)
+    → withFiltersOf g v′ (w - n) ≡ after d f (valuesAt rule mix block 0 (i + n))
+run-on d f g v v′ w rule mix block at i n before place l next =
+    let h = valuesAt rule mix block at n in
     let same : at ≡ 0 + i * instantBytes mix = omega arith in
-    let size = length-values mix block at n in
+    let size = length-values rule mix block at n in
     ap₂ (withFiltersOf g) next (ap (_-_ w) (sym size))
     ∙ (sym (passed d g v w h (omega arith))
     ∙ (ap (λ (x : Fingerprint). after d x h) before
-    ∙ (sym (after-append d f h (valuesAt mix block 0 i))
-    ∙ ap (after d f) (ap (λ (p : ℕ). valuesAt mix block p n ++ valuesAt mix block 0 i) same ∙ sym (values-more mix block 0 i n)))))
+    ∙ (sym (after-append d f h (valuesAt rule mix block 0 i))
+    ∙ ap (after d f) (ap (λ (p : ℕ). valuesAt rule mix block p n ++ valuesAt rule mix block 0 i) same ∙ sym (values-more rule mix block 0 i n)))))

@@ -1,24 +1,25 @@
 -- Document 01's answers and demand 3, after the samples h, of whose bits taken have left: no store of bits, no wait, no filter that is kept.
-use Prim.Native.Nat.{ℕ, _+_, _-_, _*_, _<_}
+use Prim.Native.Nat.{ℕ, suc, _+_, _-_, _*_, _<_}
 use mathlib.Core.Path.{_≡_}
-use mathlib.Core.List.{List, _∷_, _++_}
+use mathlib.Core.List.{List, _++_}
 use mathlib.Core.Bool.{Bool, cond, _&&_}
 use lib.Dec.{ltb, leb}
 use lib.ListN.{length, replicate}
 use Rattle.sound.specs.Exact.{exactEnvelope, exactMean, MoreAbove, AtLeastAbove}
 use Rattle.floats.specs.declared.Instant.{Instant}
-use Rattle.floats.specs.Instants.{refusedBy, floatValue}
-use Rattle.fingerprint.specs.State.{wholeInstants, valuesOf}
-use Rattle.fingerprint.specs.History.{upTo, keptBits, bytesFrom, bitIn}
+use Rattle.floats.specs.Instants.{refusedBy}
+use Rattle.fingerprint.specs.State.{wholeInstants, instants}
+use Rattle.fingerprint.specs.History.{upTo, keptAmong, keptBits, bytesFrom, bitIn}
 
--- "8 length no multiple of one instant; 9 held plus new bits above 256": the bits kept with the block's samples are those that have left, and above 256 more
+-- "8 length no multiple of one instant; 9 held plus new bits above 256": the bits kept with the block's samples are those that have left, and above 256 more.
+-- Only how many samples there are counts, so no rule is asked for
 unfoldable pub soundAnswer : ℕ → ℕ → List ℕ → ℕ → List ℕ → ℕ
 soundAnswer mix d h taken block =
-    cond (wholeInstants mix (length block)) (cond (ltb (256 + taken) (keptBits d (valuesOf mix block ++ h))) 9 0) 8
+    cond (wholeInstants mix (length block)) (cond (ltb (256 + taken) (keptAmong d (instants mix (length block) + length h))) 9 0) 8
 
 -- "14 for an instant with a NaN, or whose kind differs from the fingerprint's mix type, after 7 and before 9"; its one sample is counted as a block's
 unfoldable pub instantAnswer : ℕ → ℕ → List ℕ → ℕ → Instant → ℕ
-instantAnswer mix d h taken i = cond (refusedBy mix i) 14 (cond (ltb (256 + taken) (keptBits d (floatValue i ∷ h))) 9 0)
+instantAnswer mix d h taken i = cond (refusedBy mix i) 14 (cond (ltb (256 + taken) (keptAmong d (suc (length h)))) 9 0)
 
 -- n whole bytes are held
 unfoldable pub heldAnswer : ℕ → List ℕ → ℕ → ℕ → Bool

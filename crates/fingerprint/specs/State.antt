@@ -58,22 +58,22 @@ unfoldable pub after : ℕ → Fingerprint → List ℕ → Fingerprint
 after d f [] = f
 after d f (a ∷ h) = stepOf d (after d f h) a
 
--- the values of n instants of a block, from a place on, the newest first
-unfoldable pub valuesAt : ℕ → List ℕ → ℕ → ℕ → List ℕ
-valuesAt mix block at zero = []
-valuesAt mix block at (suc n) = instantValue mix block (at + n * instantBytes mix) ∷ valuesAt mix block at n
+-- the values of n instants of a block by a rule, from a place on, the newest first
+unfoldable pub valuesAt : ℕ → ℕ → List ℕ → ℕ → ℕ → List ℕ
+valuesAt rule mix block at zero = []
+valuesAt rule mix block at (suc n) = instantValue rule mix block (at + n * instantBytes mix) ∷ valuesAt rule mix block at n
 
 -- the instants in len bytes
 unfoldable pub instants : ℕ → ℕ → ℕ
 instants mix len = len / instantBytes mix
 
 -- the values of a whole block
-unfoldable pub valuesOf : ℕ → List ℕ → List ℕ
-valuesOf mix block = valuesAt mix block 0 (instants mix (length block))
+unfoldable pub valuesOf : ℕ → ℕ → List ℕ → List ℕ
+valuesOf rule mix block = valuesAt rule mix block 0 (instants mix (length block))
 
 -- a block of sound
-unfoldable pub heardOf : ℕ → Fingerprint → List ℕ → Fingerprint
-heardOf d f block = after d f (valuesOf (f .mix) block)
+unfoldable pub heardOf : ℕ → ℕ → Fingerprint → List ℕ → Fingerprint
+heardOf rule d f block = after d f (valuesOf rule (f .mix) block)
 
 -- how many of the next n samples are kept, the first of them after a wait: those of which none is waited for
 unfoldable pub newBits : ℕ → ℕ → ℕ → ℕ

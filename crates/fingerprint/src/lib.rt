@@ -1,4 +1,5 @@
-// One audio fingerprint by value: what it has heard, the bits that it holds, and the taking of them (01, Audio; 000, 5.3.3 to 5.3.6).
+// One audio fingerprint by value: what it has heard, the bits that it holds, and the taking of them (01, Audio; 000, 5.3.3 to 5.3.6). The mixing rule is its
+// session's, and is given with the sound.
 ghost use mathlib.Core.Path.{_≡_};
 ghost use Prim.Native.Nat.{_+_, _-_, _*_, _%_, _≤_, _<_};
 ghost use lib.Dec.{ltb};
@@ -165,37 +166,43 @@ fn instants_in(mix: u8, len: usize) -> usize
 }
 
 // n instants of a block, from a place on, enter the filters.
-fn through_as(v: Filters, mix: u8, block: &[u8], at: usize, n: usize) -> Filters
+fn through_as(v: Filters, rule: u8, mix: u8, block: &[u8], at: usize, n: usize) -> Filters
     requires { ⌜ at + n * instantBytes mix ≤ length (now block) ⌝ }
-    ensures { λ r. ⌜ r ≡ throughOf v (valuesAt mix (now (block .entry)) at n) ⌝ }
+    ensures { λ r. ⌜ r ≡ throughOf v (valuesAt rule mix (now (block .entry)) at n) ⌝ }
 {
     let size = sound::instant_bytes(mix);
     let mut next = v;
     let mut p = at;
     let mut i = 0;
     while i < n {
-        next = next_filters(next, sound::instant_value(mix, block, p));
+        next = next_filters(next, sound::instant_value(rule, mix, block, p));
         p = p + size;
         i += 1;
     }
     next
 }
 
-// The same, with a loop for each mix type, so that no sample asks for it.
-fn through(v: Filters, mix: u8, block: &[u8], at: usize, n: usize) -> Filters
+// The same, with a loop for each mix type and, where it has a quotient, for rule 2, so that no sample asks for either and no sign becomes a jump.
+fn through(v: Filters, rule: u8, mix: u8, block: &[u8], at: usize, n: usize) -> Filters
     requires { ⌜ at + n * instantBytes mix ≤ length (now block) ⌝ }
-    ensures { λ r. ⌜ r ≡ throughOf v (valuesAt mix (now (block .entry)) at n) ⌝ }
+    ensures { λ r. ⌜ r ≡ throughOf v (valuesAt rule mix (now (block .entry)) at n) ⌝ }
 {
     if mix == 1 {
-        return through_as(v, 1, block, at, n);
+        return through_as(v, rule, 1, block, at, n);
     }
     if mix == 2 {
-        return through_as(v, 2, block, at, n);
+        if rule == 2 {
+            return through_as(v, 2, 2, block, at, n);
+        }
+        return through_as(v, rule, 2, block, at, n);
     }
     if mix == 5 {
-        return through_as(v, 5, block, at, n);
+        if rule == 2 {
+            return through_as(v, 2, 5, block, at, n);
+        }
+        return through_as(v, rule, 5, block, at, n);
     }
-    through_as(v, mix, block, at, n)
+    through_as(v, rule, mix, block, at, n)
 }
 
 // How many samples pass before the next kept one or the block's end.
@@ -210,8 +217,8 @@ fn least(wait: u8, left: usize) -> u8
 }
 
 // A block of sound: each of its instants in turn, a kept one by itself and those that pass in one run.
-pub fn heard(f: Fingerprint, d: u8, block: &[u8]) -> Fingerprint
-    ensures { λ r. ⌜ r ≡ heardOf d f (now (block .entry)) ⌝ }
+pub fn heard(f: Fingerprint, rule: u8, d: u8, block: &[u8]) -> Fingerprint
+    ensures { λ r. ⌜ r ≡ heardOf rule d f (now (block .entry)) ⌝ }
 {
     let mix = f.mix;
     let size = sound::instant_bytes(mix);
@@ -228,14 +235,14 @@ pub fn heard(f: Fingerprint, d: u8, block: &[u8]) -> Fingerprint
     let mut i = 0;
     while i < n {
         if wait == 0 {
-            v = next_filters(v, sound::instant_value(mix, block, at));
+            v = next_filters(v, sound::instant_value(rule, mix, block, at));
             rest = kept(rest, v);
             wait = pause;
             at = at + size;
             i = i + 1;
         } else {
             let k = least(wait, n - i);
-            v = through(v, mix, block, at, k as usize);
+            v = through(v, rule, mix, block, at, k as usize);
             wait = wait - k;
             at = at + (k as usize) * size;
             i = i + (k as usize);
@@ -307,10 +314,10 @@ pub fn instant_number(f: Fingerprint, d: u8, i: Instant) -> u8
 }
 
 // An instant in floating point: its one mixed sample.
-pub fn heard_instant(f: Fingerprint, d: u8, i: Instant) -> Fingerprint
-    ensures { λ r. ⌜ r ≡ stepOf d f (floatValue i) ⌝ }
+pub fn heard_instant(f: Fingerprint, rule: u8, d: u8, i: Instant) -> Fingerprint
+    ensures { λ r. ⌜ r ≡ stepOf d f (floatValue rule i) ⌝ }
 {
-    step(f, floats::value(i), d)
+    step(f, floats::value(rule, i), d)
 }
 
 // Whether n whole bytes are held.

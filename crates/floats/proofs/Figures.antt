@@ -5,7 +5,7 @@ use Prim.Native.Nat.{ℕ}
 use lib.IntN.{pos, negsuc}
 use lib.Count.{trailingZeros}
 use lib.Ieee.{Float, binary32, odd, ofFields, ofBits, isNan}
-use Rattle.sound.specs.Mix.{weights, divisor, weighted, floor, mixed, pseudoAbsolute}
+use Rattle.sound.specs.Mix.{weights, divisor, weighted, floor, towardsZero, quotient, mixed, pseudoAbsolute}
 use Rattle.floats.specs.declared.Instant.{Instant}
 use Rattle.floats.specs.declared.Instant.the-variants as instant
 use Rattle.floats.specs.Values.{sampleOf}
@@ -34,17 +34,19 @@ pub record Figures : Type 0 where
   pub step-down : (sampleOf (value 0xB8000000) ≡ negsuc 0) × (sampleOf (value 0xB8000001) ≡ negsuc 1)
   -- NaNs: a quiet one, a signalling one, one with its sign set
   pub nans : (isNan (value 0x7FC00000) ≡ true) × (isNan (value 0x7F800001) ≡ true) × (isNan (value 0xFFFFFFFF) ≡ true)
-  -- "The mix follows on the integers": both -1.0 mix to -23,171
-  pub stereo : floatValue (instant.Stereo (value 0xBF800000) (value 0xBF800000)) ≡ 23170
+  -- "The mix follows on the integers": both -1.0 mix to -23,171, by rule 2 to -23,170
+  pub stereo : (floatValue 1 (instant.Stereo (value 0xBF800000) (value 0xBF800000)) ≡ 23170) × (floatValue 2 (instant.Stereo (value 0xBF800000) (value 0xBF800000)) ≡ 23169)
+  -- both -1.5 / 32,768: the samples are -2 by either rule, which mix to -2, by rule 2 to -1
+  pub floored : (floatValue 1 (instant.Stereo (value 0xB8400000) (value 0xB8400000)) ≡ 1) × (floatValue 2 (instant.Stereo (value 0xB8400000) (value 0xB8400000)) ≡ 0)
   -- 0.5 in L or R, in C, in Ls or Rs
-  pub front : (floatValue (fiveOf 0x3F000000 0 0 0 0) ≡ 2896) × (floatValue (fiveOf 0 0x3F000000 0 0 0) ≡ 2896)
-  pub centre : floatValue (fiveOf 0 0 0x3F000000 0 0) ≡ 4096
-  pub rear : (floatValue (fiveOf 0 0 0 0x3F000000 0) ≡ 2048) × (floatValue (fiveOf 0 0 0 0 0x3F000000) ≡ 2048)
+  pub front : (floatValue 1 (fiveOf 0x3F000000 0 0 0 0) ≡ 2896) × (floatValue 1 (fiveOf 0 0x3F000000 0 0 0) ≡ 2896)
+  pub centre : floatValue 1 (fiveOf 0 0 0x3F000000 0 0) ≡ 4096
+  pub rear : (floatValue 1 (fiveOf 0 0 0 0x3F000000 0) ≡ 2048) × (floatValue 1 (fiveOf 0 0 0 0 0x3F000000) ≡ 2048)
   -- a NaN in the last place
   pub last-nan : hasNan (fiveOf 0 0 0 0 0x7FC00000) ≡ true
 
 pub figures : Figures
-unfolding ofBits ofFields odd trailingZeros isNan sampleOf floor floatValue mixed weights divisor weighted pseudoAbsolute hasNan
+unfolding ofBits ofFields odd trailingZeros isNan sampleOf floor towardsZero quotient floatValue mixed weights divisor weighted pseudoAbsolute hasNan
 figures = record {
   one = (refl, refl);
   minus-one = (refl, refl);
@@ -56,7 +58,8 @@ figures = record {
   half = refl;
   step-down = (refl, refl);
   nans = (refl, refl, refl);
-  stereo = refl;
+  stereo = (refl, refl);
+  floored = (refl, refl);
   front = (refl, refl);
   centre = refl;
   rear = (refl, refl);

@@ -34,6 +34,6 @@ hasNan i = anyNan (valuesIn i)
 abbrev pub refusedBy : ℕ → Instant → Bool
 refusedBy mix i = hasNan i || not (eqb (kindOf i) mix)
 
--- "The mix follows on the integers": a(i), as of a block's instant with these samples
-unfoldable pub floatValue : Instant → ℕ
-floatValue i = pseudoAbsolute (mixed (kindOf i) (map sampleOf (valuesIn i)))
+-- "The mix follows on the integers": a(i) by a rule, as of a block's instant with these samples
+unfoldable pub floatValue : ℕ → Instant → ℕ
+floatValue rule i = pseudoAbsolute (mixed rule (kindOf i) (map sampleOf (valuesIn i)))

@@ -98,14 +98,15 @@ pub fn has_nan(i: Instant) -> bool
     }
 }
 
-// a(i) of an instant: the mix of its samples, as that of a block's instant.
-pub fn value(i: Instant) -> u16
-    ensures { λ r. ⌜ r ≡ floatValue i ⌝ }
+// a(i) of an instant by a rule: the mix of its samples, as that of a block's instant. A value's sample is its floor by either rule.
+pub fn value(rule: u8, i: Instant) -> u16
+    ensures { λ r. ⌜ r ≡ floatValue rule i ⌝ }
 {
     match i {
         Instant::Mono(x) => sound::mono_value(bits_of(x)),
-        Instant::Stereo(l, r) => sound::stereo_value(bits_of(l), bits_of(r)),
+        Instant::Stereo(l, r) => sound::stereo_value(rule, bits_of(l), bits_of(r)),
         Instant::Five(f) => sound::five_value(
+            rule,
             bits_of(f.L),
             bits_of(f.R),
             bits_of(f.C),

@@ -7,7 +7,7 @@ use native.Mathlib.Omega.{arith}
 use borrow.Author.Tests.{leb-true, leb-false, lt-leb, eq-eqb, ne-eqb}
 use lib.Dec.{leb, eqb}
 use lib.ListN.{length}
-use Rattle.laws.proofs.Tests.{both}
+use Rattle.laws.proofs.Tests.{both, past}
 use Rattle.laws.specs.declared.Done.{Done}
 use Rattle.rates.specs.Rates.{pairsWith}
 use Rattle.picture.specs.declared.Told.the-variants.{Open}
@@ -20,8 +20,8 @@ use Rattle.fingerprint.specs.declared.Fingerprint.{Fingerprint}
 use Rattle.container.specs.Writing.{writeDone, writeOut}
 use Rattle.session.specs.declared.Settings.{Settings}
 use Rattle.session.specs.declared.Session.{Session}
-use Rattle.session.specs.Fingerprints.{allListed, each}
-use Rattle.session.specs.Session.{isSet, setupNumber, setUpWith, emptySession, setupOf, withPicture, lineOf, lineSays, withFingerprint, reached, heardWith, videoRestarted, audioAnew, audioRestarted}
+use Rattle.session.specs.Fingerprints.{each}
+use Rattle.session.specs.Session.{isSet, ruleListed, setupNumber, setUpWith, emptySession, setupOf, withPicture, lineOf, lineSays, withFingerprint, reached, heardWith, videoRestarted, audioAnew, audioRestarted}
 use Rattle.session.specs.Packing.{contentsOf, sessionAfter, readyNumber, packNumber, refusedWith, packOf, packOut}
 
 -- settings of an accepted setup have at most 32 fingerprints
@@ -33,25 +33,23 @@ set-count s e =
 
 -- ---- Setup
 
-module _ (format rate : ℕ) (mixes : List ℕ) where
-  pub setup-0 : setupNumber format rate mixes ≡ 0 → record { number = 0; session = setUpWith format rate (length mixes) mixes } ≡ setupOf format rate mixes
+module _ (format rate rule : ℕ) (mixes : List ℕ) where
+  pub setup-0 : setupNumber format rate rule mixes ≡ 0 → record { number = 0; session = setUpWith format rate rule (length mixes) mixes } ≡ setupOf format rate rule mixes
   unfolding setupOf
-  setup-0 e = rw (eq-eqb (setupNumber format rate mixes) 0 e)
+  setup-0 e = rw (eq-eqb (setupNumber format rate rule mixes) 0 e)
 
-  pub setup-1 : (setupNumber format rate mixes ≡ 0 → ⊥) → record { number = setupNumber format rate mixes; session = emptySession } ≡ setupOf format rate mixes
+  pub setup-1 : (setupNumber format rate rule mixes ≡ 0 → ⊥) → record { number = setupNumber format rate rule mixes; session = emptySession } ≡ setupOf format rate rule mixes
   unfolding setupOf
-  setup-1 e = rw (ne-eqb (setupNumber format rate mixes) 0 e)
+  setup-1 e = rw (ne-eqb (setupNumber format rate rule mixes) 0 e)
 
   -- an accepted setup has at most 32 mix types
-  pub setup-few : setupNumber format rate mixes ≡ 0 → length mixes ≤ 32
+  pub setup-few : setupNumber format rate rule mixes ≡ 0 → length mixes ≤ 32
   unfolding setupNumber
-  setup-few e = go (pairsWith format rate) (leb 1 (length mixes)) (leb (length mixes) 32) refl e
-    where
-      go : (a b d : Bool) → leb (length mixes) 32 ≡ d → _≡_ {A = ℕ} (cond a (cond b (cond d (cond (allListed mixes) 0 1) 1) 1) 1) 0 → length mixes ≤ 32
-      go a b true p h = leb-true (length mixes) 32 p
-      go true true false p h = absurd (let z : ⊥ = omega arith in z)
-      go true false false p h = absurd (let z : ⊥ = omega arith in z)
-      go false b false p h = absurd (let z : ⊥ = omega arith in z)
+  setup-few e =
+      let paired = past (pairsWith format rate) 1 _ e (omega arith) in
+      let ruled = past (ruleListed rule) 1 _ (paired .1) (omega arith) in
+      let some = past (leb 1 (length mixes)) 1 _ (ruled .1) (omega arith) in
+      leb-true (length mixes) 32 (past (leb (length mixes) 32) 1 _ (some .1) (omega arith) .0)
 
 module _ (s : Session) where
   abbrev set : Bool

@@ -1,7 +1,7 @@
--- A session and its calls but Pack (01, "What the card's software does", "What a caller is told").
+-- A session and its calls but Pack (01, "What the card's software does", "What a caller is told"; 02, A3 and A9).
 use Prim.Native.Nat.{ℕ}
 use mathlib.Core.List.{List, []}
-use mathlib.Core.Bool.{Bool, false, cond, _&&_}
+use mathlib.Core.Bool.{Bool, false, cond, _&&_, _||_}
 use lib.Dec.{leb, eqb}
 use lib.ListN.{length, getD, set}
 use Rattle.laws.specs.Calls.{unless}
@@ -22,27 +22,32 @@ use Rattle.session.specs.declared.Lined.{Lined}
 use Rattle.session.specs.declared.Sounded.{Sounded}
 use Rattle.session.specs.Fingerprints.{allListed, freshFingerprints, each, cleared}
 
--- the settings are those of an accepted setup: a format with a rate that it takes, and 1 to 32 fingerprints
+-- there is a session: a format with a rate that it takes, and 1 to 32 fingerprints
 unfoldable pub isSet : Settings → Bool
 isSet s = pairsWith (s .format) (s .rate) && (leb 1 (s .count) && leb (s .count) 32)
 
 -- ---- Setup
 
--- "1 format, rate pairing, fingerprint count or mix type not listed"
-unfoldable pub setupNumber : ℕ → ℕ → List ℕ → ℕ
-setupNumber format rate mixes =
+-- "Setup takes rule 1 or 2" (02, A9)
+unfoldable pub ruleListed : ℕ → Bool
+ruleListed rule = eqb rule 1 || eqb rule 2
+
+-- "1 format, rate pairing, fingerprint count or mix type not listed"; "1 also covers another rule number" (02, A9)
+unfoldable pub setupNumber : ℕ → ℕ → ℕ → List ℕ → ℕ
+setupNumber format rate rule mixes =
     unless (pairsWith format rate) 1
+    (unless (ruleListed rule) 1
     (unless (leb 1 (length mixes)) 1
     (unless (leb (length mixes) 32) 1
     (unless (allListed mixes) 1
-    0)))
+    0))))
 
 -- "The counter starts at 0"; the cadence "to frame 1, where setup starts it"
-unfoldable pub setUpWith : ℕ → ℕ → ℕ → List ℕ → Session
-setUpWith format rate count mixes =
+unfoldable pub setUpWith : ℕ → ℕ → ℕ → ℕ → List ℕ → Session
+setUpWith format rate rule count mixes =
     record {
       programme = record {
-        settings = record { format = format; rate = rate; count = count };
+        settings = record { format = format; rate = rate; rule = rule; count = count };
         picture = freshPicture;
         counter = 0;
         place = 0;
@@ -52,13 +57,13 @@ setUpWith format rate count mixes =
 
 -- "a refused setup gives an empty one"
 unfoldable pub emptySession : Session
-emptySession = setUpWith 0 0 0 []
+emptySession = setUpWith 0 0 0 0 []
 
-unfoldable pub setupOf : ℕ → ℕ → List ℕ → Begun
-setupOf format rate mixes =
-    cond (eqb (setupNumber format rate mixes) 0)
-    (record { number = 0; session = setUpWith format rate (length mixes) mixes })
-    (record { number = setupNumber format rate mixes; session = emptySession })
+unfoldable pub setupOf : ℕ → ℕ → ℕ → List ℕ → Begun
+setupOf format rate rule mixes =
+    cond (eqb (setupNumber format rate rule mixes) 0)
+    (record { number = 0; session = setUpWith format rate rule (length mixes) mixes })
+    (record { number = setupNumber format rate rule mixes; session = emptySession })
 
 -- ---- Line
 
@@ -115,10 +120,11 @@ unfoldable pub soundedNumber : Session → ℕ → ℕ → ℕ
 soundedNumber s k len =
     reached (s .programme .settings) k (soundNumber (intervalOf (s .programme .settings .rate)) (getD (s .fingerprints) k noFingerprint) len)
 
+-- "a session keeps it" (02, A9): the block is mixed by the rule that was set up
 unfoldable pub soundOf : Session → ℕ → List ℕ → Sounded
 soundOf s k block =
     heardWith s k (soundedNumber s k (length block))
-    (heardOf (intervalOf (s .programme .settings .rate)) (getD (s .fingerprints) k noFingerprint) block)
+    (heardOf (s .programme .settings .rule) (intervalOf (s .programme .settings .rate)) (getD (s .fingerprints) k noFingerprint) block)
 
 -- ---- An instant in floating point (02, A3): "14 .., after 7 and before 9"
 
@@ -129,7 +135,7 @@ instantedNumber s k i =
 unfoldable pub instantOf : Session → ℕ → Instant → Sounded
 instantOf s k i =
     heardWith s k (instantedNumber s k i)
-    (stepOf (intervalOf (s .programme .settings .rate)) (getD (s .fingerprints) k noFingerprint) (floatValue i))
+    (stepOf (intervalOf (s .programme .settings .rate)) (getD (s .fingerprints) k noFingerprint) (floatValue (s .programme .settings .rule) i))
 
 -- ---- Restarts: "never refused"; on an empty session they "change nothing"
 

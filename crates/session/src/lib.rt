@@ -1,10 +1,10 @@
 // The card's software as one value and seven calls: Setup, Line, Sound, an instant in floating point, Pack and the two restarts (01, "What the card's software does",
-// "What a caller is told"; 02, A3).
+// "What a caller is told"; 02, A3 and A9).
 ghost use mathlib.Core.Path.{_≡_};
 ghost use Prim.Native.Nat.{_≤_};
 ghost use lib.ListN.{length};
 ghost use Rattle.picture.specs.Fields.{saysOf};
-ghost use Rattle.session.specs.Session.{isSet, setupNumber, setUpWith, setupOf, lineOf, lineSays, reached, soundOf, instantOf, videoRestarted, audioRestarted};
+ghost use Rattle.session.specs.Session.{isSet, ruleListed, setupNumber, setUpWith, setupOf, lineOf, lineSays, reached, soundOf, instantOf, videoRestarted, audioRestarted};
 ghost use Rattle.session.specs.Packing.{packNumber, packOf, packOut};
 use fingerprint::Fingerprint;
 use floats::Instant;
@@ -18,6 +18,7 @@ mod packing;
 pub struct Settings {
     format: u8,
     rate: u8,
+    rule: u8,
     count: u8,
 }
 
@@ -57,7 +58,7 @@ pub struct Packed {
     pub session: Session,
 }
 
-// Whether the settings are those of an accepted setup; an empty session's are not.
+// Whether there is a session, and not an empty one.
 fn is_set(s: Settings) -> bool
     ensures { λ r. ⌜ r ≡ isSet s ⌝ }
 {
@@ -70,11 +71,24 @@ fn is_set(s: Settings) -> bool
     s.count <= 32
 }
 
-// 1 where the format, the rate, their pairing, the number of mix types or one of them is not listed.
-fn setup_number(format: u8, rate: u8, mixes: &[u8]) -> u8
-    ensures { λ r. ⌜ r ≡ setupNumber format rate (now (mixes .entry)) ⌝ }
+// Whether a mixing rule is listed.
+fn rule_listed(rule: u8) -> bool
+    ensures { λ r. ⌜ r ≡ ruleListed rule ⌝ }
+{
+    if rule == 1 {
+        return true;
+    }
+    rule == 2
+}
+
+// 1 where the format, the rate, their pairing, the mixing rule, the number of mix types or one of them is not listed.
+fn setup_number(format: u8, rate: u8, rule: u8, mixes: &[u8]) -> u8
+    ensures { λ r. ⌜ r ≡ setupNumber format rate rule (now (mixes .entry)) ⌝ }
 {
     if !rates::pairs(format, rate) {
+        return 1;
+    }
+    if !rule_listed(rule) {
         return 1;
     }
     if mixes.len() < 1 {
@@ -91,9 +105,9 @@ fn setup_number(format: u8, rate: u8, mixes: &[u8]) -> u8
 }
 
 // A session as setup makes it, from a number of mix types that it takes.
-fn set_up(format: u8, rate: u8, count: u8, mixes: &[u8]) -> Session
+fn set_up(format: u8, rate: u8, rule: u8, count: u8, mixes: &[u8]) -> Session
     requires { ⌜ length (now mixes) ≤ 32 ⌝ }
-    ensures { λ r. ⌜ r ≡ setUpWith format rate count (now (mixes .entry)) ⌝ }
+    ensures { λ r. ⌜ r ≡ setUpWith format rate rule count (now (mixes .entry)) ⌝ }
 {
     let picture = picture::fresh();
     let fresh = fingerprints::fresh_fingerprints(mixes);
@@ -102,6 +116,7 @@ fn set_up(format: u8, rate: u8, count: u8, mixes: &[u8]) -> Session
             settings: Settings {
                 format,
                 rate,
+                rule,
                 count,
             },
             picture,
@@ -112,20 +127,20 @@ fn set_up(format: u8, rate: u8, count: u8, mixes: &[u8]) -> Session
     }
 }
 
-// Setup: 1, with an empty session.
-pub fn setup(format: u8, rate: u8, mixes: &[u8]) -> Begun
-    ensures { λ r. ⌜ r ≡ setupOf format rate (now (mixes .entry)) ⌝ }
+// Setup: 1, with an empty session. The rule mixes all sound of the session.
+pub fn setup(format: u8, rate: u8, rule: u8, mixes: &[u8]) -> Begun
+    ensures { λ r. ⌜ r ≡ setupOf format rate rule (now (mixes .entry)) ⌝ }
 {
-    let number = setup_number(format, rate, mixes);
+    let number = setup_number(format, rate, rule, mixes);
     if number != 0 {
         return Begun {
             number,
-            session: set_up(0, 0, 0, &mixes[..0]),
+            session: set_up(0, 0, 0, 0, &mixes[..0]),
         };
     }
     Begun {
         number: 0,
-        session: set_up(format, rate, mixes.len() as u8, mixes),
+        session: set_up(format, rate, rule, mixes.len() as u8, mixes),
     }
 }
 
@@ -195,7 +210,7 @@ pub fn sound(s: Session, k: usize, block: &[u8]) -> Sounded
     if number != 0 {
         return Sounded { number, session: s };
     }
-    let heard = fingerprint::heard(f, d, block);
+    let heard = fingerprint::heard(f, settings.rule, d, block);
     all[k] = heard;
     Sounded {
         number: 0,
@@ -226,7 +241,7 @@ pub fn instant(s: Session, k: usize, i: Instant) -> Sounded
     if number != 0 {
         return Sounded { number, session: s };
     }
-    let heard = fingerprint::heard_instant(f, d, i);
+    let heard = fingerprint::heard_instant(f, settings.rule, d, i);
     all[k] = heard;
     Sounded {
         number: 0,

@@ -2,5 +2,6 @@
 pub mod Rounding
 pub mod Instants
 pub mod Meaning
+pub mod Range
 pub mod Exact
 pub mod Unique

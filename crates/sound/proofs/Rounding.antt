@@ -1,11 +1,14 @@
--- The rounding of a mix, and 16 bits as a signed number.
+-- The rounding of a mix by either rule, and 16 bits as a signed number.
 use Prim.Native.Nat.{ℕ, suc, _+_, _-_, _*_, _/_, _%_, _<_, _≤_}
-use mathlib.Core.Path.{_≡_, sym, ap, _∙_}
-use native.Mathlib.Nat.{add-mul, add-mul-div-right, div-add-mod', div-eq-of-lt-le, div-lt-iff-lt-mul, mod-lt}
+use mathlib.Core.Path.{_≡_, refl, sym, ap, _∙_}
+use mathlib.Core.Logic.{_≢_}
+use mathlib.Core.Bool.{Bool, true, false, cond}
+use native.Mathlib.Nat.{add-mul, add-mul-div-right, div-add-mod', div-eq-of-lt, div-eq-of-lt-le, div-lt-iff-lt-mul, mod-lt}
 use native.Mathlib.Omega.{arith}
-use lib.IntN.{ℤ, pos, negsuc, subℕ}
-use borrow.Author.Tests.{lt-ltb, le-ltb}
-use Rattle.sound.specs.Mix.{signed, floor, pseudoAbsolute}
+use lib.Dec.{eqb}
+use lib.IntN.{ℤ, pos, negsuc, negℤ, subℕ}
+use borrow.Author.Tests.{lt-ltb, le-ltb, eq-eqb, ne-eqb}
+use Rattle.sound.specs.Mix.{signed, floor, towardsZero, quotient, pseudoAbsolute}
 use Rattle.laws.proofs.Whole.{by-order, sub-pos, sub-neg, sub-eq}
 
 -- a number that is held 32,768 too high
@@ -53,12 +56,52 @@ module _ (s b d : ℕ) (p : 0 < d) (few : b ≤ 32768 * d) where
   pub quotient-small : s < b + 32768 * d → (s + (32768 * d - b)) / d < 65536
   quotient-small h = div-lt-iff-lt-mul p .1 (omega arith)
 
-  pub quotient-is : lowered ((s + (32768 * d - b)) / d) ≡ floor (subℕ s b) d
+  pub floor-lowered : lowered ((s + (32768 * d - b)) / d) ≡ floor (subℕ s b) d
   unfolding floor
-  quotient-is =
+  floor-lowered =
       by-order s b
       (λ h. sub-neg ((s + (32768 * d - b)) / d) 32768 ((b - s - 1) / d) (omega (arith, quotient-down h)) ∙ ap (λ (z : ℤ). floor z d) (sym (sub-neg s b (b - s - 1) (omega arith))))
       (λ h. sub-pos ((s + (32768 * d - b)) / d) 32768 ((s - b) / d) (omega (arith, quotient-up h)) ∙ ap (λ (z : ℤ). floor z d) (sym (sub-pos s b (s - b) (omega arith))))
+
+-- ---- the rules, each by a sum that is rounded down
+
+-- any rule but 2 rounds down
+pub rounds-down : (rule : ℕ) (z : ℤ) (d : ℕ) → rule ≢ 2 → floor z d ≡ quotient rule z d
+unfolding quotient
+rounds-down rule z d n = simp (ne-eqb rule 2 n)
+
+pub rounds-to-zero : (rule : ℕ) (z : ℤ) (d : ℕ) → rule ≡ 2 → towardsZero z d ≡ quotient rule z d
+unfolding quotient
+rounds-to-zero rule z d e = simp (eq-eqb rule 2 e)
+
+-- what is not negative is rounded alike, by any rule
+pub rounds-alike : (rule n d : ℕ) → quotient rule (pos n) d ≡ pos (n / d)
+unfolding quotient towardsZero floor
+rounds-alike rule n d = same (eqb rule 2)
+  where
+    same : (b : Bool) → cond b (pos (n / d)) (pos (n / d)) ≡ pos (n / d)
+    same true = refl
+    same false = refl
+
+pub not-lifted : (rule s b d : ℕ) → b ≤ s → floor (subℕ s b) d ≡ quotient rule (subℕ s b) d
+unfolding floor
+not-lifted rule s b d h = rw (sub-pos s b (s - b) (omega arith)) (sym (rounds-alike rule (s - b) d))
+
+-- a negative number rounds towards zero as one d - 1 higher rounds down
+pub lifted : (s b d : ℕ) → 0 < d → s < b → floor (subℕ (s + (d - 1)) b) d ≡ towardsZero (subℕ s b) d
+unfolding floor towardsZero
+lifted s b d p h =
+    let n : ℕ = b - s - 1 in
+    (by-order (suc n) d
+    (λ l.
+    let k : ℕ = d - 1 - suc n in
+    ap (λ (z : ℤ). floor z d) (sub-pos (s + (d - 1)) b k (omega arith)) ∙ ap pos (div-eq-of-lt (omega arith)) ∙ sym (ap (λ (q : ℕ). negℤ (pos q)) (div-eq-of-lt l)))
+    (λ l.
+    let k : ℕ = suc n - d in
+    let e : suc n ≡ k + 1 * d = omega arith in
+    let q : suc n / d ≡ suc (k / d) = ap (λ (m : ℕ). m / d) e ∙ (add-mul-div-right k 1 p ∙ omega arith) in
+    ap (λ (z : ℤ). floor z d) (sub-neg (s + (d - 1)) b k (omega arith)) ∙ sym (ap (λ (m : ℕ). negℤ (pos m)) q))
+    ∙ ap (λ (z : ℤ). towardsZero z d) (sym (sub-neg s b n (omega arith))))
 
 pub absolute-low : (m : ℕ) → m < 32768 → m ≡ pseudoAbsolute (signed m)
 unfolding pseudoAbsolute

@@ -1,8 +1,8 @@
--- The mix of one instant, over the whole numbers, and a(i), its pseudo-absolute value (01, Audio; 000, 5.3.1 and 5.3.2).
+-- The mix of one instant, over the whole numbers, and a(i), its pseudo-absolute value (01, Audio; 000, 5.3.1 and 5.3.2; 02, A9).
 use Prim.Native.Nat.{ℕ, zero, suc, _+_, _*_, _/_}
 use mathlib.Core.List.{List, [], _∷_}
 use mathlib.Core.Bool.{cond}
-use lib.IntN.{ℤ, pos, negsuc, _+ℤ_, _-ℤ_, _*ℤ_}
+use lib.IntN.{ℤ, pos, negsuc, negℤ, _+ℤ_, _-ℤ_, _*ℤ_}
 use lib.Dec.{ltb, eqb}
 use lib.ListN.{length, getD}
 
@@ -41,9 +41,18 @@ unfoldable pub floor : ℤ → ℕ → ℤ
 floor (pos n) d = pos (n / d)
 floor (negsuc n) d = negsuc (n / d)
 
--- the mix of an instant's samples, in the order of their channels
-unfoldable pub mixed : ℕ → List ℤ → ℤ
-mixed mix samples = floor (weighted (weights mix) samples) (divisor mix)
+-- z / d, "rounded towards zero" (02, A9): -(n + 1) gives -((n + 1) / d). `proofs.Meaning.towards-zero-is` says what it is
+unfoldable pub towardsZero : ℤ → ℕ → ℤ
+towardsZero (pos n) d = pos (n / d)
+towardsZero (negsuc n) d = negℤ (pos (suc n / d))
+
+-- z / d by a rule: "Setup takes rule 1 or 2" (02, A9), of which 01's is 1
+unfoldable pub quotient : ℕ → ℤ → ℕ → ℤ
+quotient rule z d = cond (eqb rule 2) (towardsZero z d) (floor z d)
+
+-- the mix of an instant's samples, in the order of their channels, by a rule
+unfoldable pub mixed : ℕ → ℕ → List ℤ → ℤ
+mixed rule mix samples = quotient rule (weighted (weights mix) samples) (divisor mix)
 
 -- "A negative mix m then becomes -m-1": m = -(n + 1) gives n
 unfoldable pub pseudoAbsolute : ℤ → ℕ
@@ -55,5 +64,5 @@ unfoldable pub instantBytes : ℕ → ℕ
 instantBytes mix = 2 * length (weights mix)
 
 -- a(i), of the instant whose bytes start at a place of a block
-unfoldable pub instantValue : ℕ → List ℕ → ℕ → ℕ
-instantValue mix block at = pseudoAbsolute (mixed mix (instantSamples block at (length (weights mix))))
+unfoldable pub instantValue : ℕ → ℕ → List ℕ → ℕ → ℕ
+instantValue rule mix block at = pseudoAbsolute (mixed rule mix (instantSamples block at (length (weights mix))))

@@ -10,10 +10,10 @@ use Rattle.bench_audio.proofs.bench_audio.Statement.{statement}
 use Rattle.bench_audio.proofs.bench_audio.Tie as tie
 
 abbrev Inv-loop : tie.InvT-loop
-Inv-loop mix d block rounds t₀ i₀ t i = (i ≤ rounds) × (t ≡ turns mix d block i) × (t .sum < 4294967296)
+Inv-loop rule mix d block rounds t₀ i₀ t i = (i ≤ rounds) × (t ≡ turns rule mix d block i) × (t .sum < 4294967296)
 
 abbrev μ-loop : tie.MeasureT-loop
-μ-loop mix d block rounds t₀ i₀ t i = rounds - i
+μ-loop rule mix d block rounds t₀ i₀ t i = rounds - i
 
 fresh-requires : tie.Need-fresh-requires Inv-loop μ-loop
 fresh-requires c κs = search needs
@@ -35,14 +35,14 @@ loop-again : tie.Need-loop-again Inv-loop μ-loop
 unfolding turns
 loop-again c =
     let a = c .before .before .before .before .before .args in
-    (omega arith, rw add-one (c .block-in .ensures .0 ∙ ap (nextTurn (a .d) (a .block .now)) (c .before .before .loop .inv .1)), c .block-in .ensures .1)
+    (omega arith, rw add-one (c .block-in .ensures .0 ∙ ap (nextTurn (a .rule) (a .d) (a .block .now)) (c .before .before .loop .inv .1)), c .block-in .ensures .1)
 
 returns : tie.Need-returns Inv-loop μ-loop
 unfolding sumAfter
 returns c =
     let a = c .before .before .before .before .args in
     let all : c .before .loop .i ≡ a .rounds = omega arith in
-    ap (λ (t : Turn). t .sum) (c .before .loop .inv .1 ∙ ap (turns (a .mix) (a .d) (a .block .now)) all)
+    ap (λ (t : Turn). t .sum) (c .before .loop .inv .1 ∙ ap (turns (a .rule) (a .mix) (a .d) (a .block .now)) all)
 
 pub bench-audio-spec : {M : Type 1} → statement M
 bench-audio-spec =

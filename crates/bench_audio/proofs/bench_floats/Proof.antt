@@ -11,10 +11,10 @@ use Rattle.bench_audio.proofs.bench_floats.Statement.{statement}
 use Rattle.bench_audio.proofs.bench_floats.Tie as tie
 
 abbrev Inv-loop : tie.InvT-loop
-Inv-loop mix d values rounds t₀ i₀ t i = (i ≤ rounds) × (t ≡ floatTurns mix d values i) × (t .sum < 4294967296)
+Inv-loop rule mix d values rounds t₀ i₀ t i = (i ≤ rounds) × (t ≡ floatTurns rule mix d values i) × (t .sum < 4294967296)
 
 abbrev μ-loop : tie.MeasureT-loop
-μ-loop mix d values rounds t₀ i₀ t i = rounds - i
+μ-loop rule mix d values rounds t₀ i₀ t i = rounds - i
 
 fresh-requires : tie.Need-fresh-requires Inv-loop μ-loop
 fresh-requires c κs = search needs
@@ -41,7 +41,7 @@ loop-again c =
     let a = c .before .before .before .before .before .before .before .args in
     let l = c .before .before .before .before .loop in
     let heard = ap (takenIn (l .t .sum)) (c .before .all-in .ensures) in
-    let next = ap (λ (t : Turn). takenIn (t .sum) (allIn (a .mix) (a .d) (a .values .now) (t .fingerprint))) (l .inv .1) in
+    let next = ap (λ (t : Turn). takenIn (t .sum) (allIn (a .rule) (a .mix) (a .d) (a .values .now) (t .fingerprint))) (l .inv .1) in
     (omega arith, rw add-one (c .taken-in .ensures .0 ∙ heard ∙ next), c .taken-in .ensures .1)
 
 returns : tie.Need-returns Inv-loop μ-loop
@@ -49,7 +49,7 @@ unfolding floatSumAfter
 returns c =
     let a = c .before .before .before .before .args in
     let all : c .before .loop .i ≡ a .rounds = omega arith in
-    ap (λ (t : Turn). t .sum) (c .before .loop .inv .1 ∙ ap (floatTurns (a .mix) (a .d) (a .values .now)) all)
+    ap (λ (t : Turn). t .sum) (c .before .loop .inv .1 ∙ ap (floatTurns (a .rule) (a .mix) (a .d) (a .values .now)) all)
 
 pub bench-floats-spec : {M : Type 1} → statement M
 bench-floats-spec =

@@ -12,10 +12,10 @@ use Rattle.bench_audio.proofs.instants_in.Statement.{statement}
 use Rattle.bench_audio.proofs.instants_in.Tie as tie
 
 abbrev Inv-loop : tie.InvT-loop
-Inv-loop mix d values n g₀ at₀ i₀ g at i = (i ≤ n) × (at ≡ i * mix) × (at ≤ length values) × (g ≡ instantsIn mix d values g₀ i)
+Inv-loop rule mix d values n g₀ at₀ i₀ g at i = (i ≤ n) × (at ≡ i * mix) × (at ≤ length values) × (g ≡ instantsIn rule mix d values g₀ i)
 
 abbrev μ-loop : tie.MeasureT-loop
-μ-loop mix d values n g₀ at₀ i₀ g at i = n - i
+μ-loop rule mix d values n g₀ at₀ i₀ g at i = n - i
 
 loop-holds : tie.Need-loop-holds Inv-loop μ-loop
 unfolding instantsIn
@@ -61,14 +61,14 @@ loop-again c =
     let v = a .values .now in
     let all : take (length v - l .at) (drop (l .at) v) ≡ drop (l .at) v = take-all (length v - l .at) (drop (l .at) v) (omega (arith, length-drop (l .at) v)) in
     let i = c .before .instant-of .ensures ∙ ap (instantOf (a .mix)) (all ∙ ap (λ (k : ℕ). drop k v) (l .inv .1)) in
-    (more, omega arith, omega (arith, mul-le-mul-right (a .mix) more), rw add-one (c .instant-in .ensures ∙ ap₂ (instantIn (a .d)) (l .inv .3) i))
+    (more, omega arith, omega (arith, mul-le-mul-right (a .mix) more), rw add-one (c .instant-in .ensures ∙ ap₂ (instantIn (a .rule) (a .d)) (l .inv .3) i))
 
 returns : tie.Need-returns Inv-loop μ-loop
 returns c =
     let l = c .before .loop in
     let a = c .before .before .before .args in
     let all : l .i ≡ a .n = omega arith in
-    l .inv .3 ∙ ap (instantsIn (a .mix) (a .d) (a .values .now) (a .f)) all
+    l .inv .3 ∙ ap (instantsIn (a .rule) (a .mix) (a .d) (a .values .now) (a .f)) all
 
 pub instants-in-spec : {M : Type 1} → statement M
 instants-in-spec =

@@ -12,10 +12,10 @@ use Rattle.bench_session.proofs.bench_instants.Statement.{statement}
 use Rattle.bench_session.proofs.bench_instants.Tie as tie
 
 abbrev Inv-loop : tie.InvT-loop
-Inv-loop mixes mix rounds line values t₀ i₀ t i = (i ≤ rounds) × (t ≡ instantTurns mixes mix line values i) × (t .sum < 4294967296)
+Inv-loop rule mixes mix rounds line values t₀ i₀ t i = (i ≤ rounds) × (t ≡ instantTurns rule mixes mix line values i) × (t .sum < 4294967296)
 
 abbrev μ-loop : tie.MeasureT-loop
-μ-loop mixes mix rounds line values t₀ i₀ t i = rounds - i
+μ-loop rule mixes mix rounds line values t₀ i₀ t i = rounds - i
 
 setup-requires : tie.Need-setup-requires Inv-loop μ-loop
 setup-requires c κs = search needs
@@ -48,7 +48,7 @@ unfolding instantSumAfter
 returns c =
     let a = c .before .before .before .before .before .before .before .args in
     let all : c .before .loop .i ≡ a .rounds = omega arith in
-    ap (λ (t : Turn). t .sum) (c .before .loop .inv .1 ∙ ap (instantTurns (a .mixes .now) (a .mix) (a .line .now) (a .values .now)) all)
+    ap (λ (t : Turn). t .sum) (c .before .loop .inv .1 ∙ ap (instantTurns (a .rule) (a .mixes .now) (a .mix) (a .line .now) (a .values .now)) all)
 
 pub bench-instants-spec : {M : Type 1} → statement M
 bench-instants-spec =

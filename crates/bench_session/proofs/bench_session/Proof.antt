@@ -11,10 +11,10 @@ use Rattle.bench_session.proofs.bench_session.Statement.{statement}
 use Rattle.bench_session.proofs.bench_session.Tie as tie
 
 abbrev Inv-loop : tie.InvT-loop
-Inv-loop mix rounds extra blocks even odd block t₀ i₀ t i = (i ≤ rounds) × (t ≡ turns mix extra blocks even odd block i) × (t .sum < 4294967296)
+Inv-loop rule mix rounds extra blocks even odd block t₀ i₀ t i = (i ≤ rounds) × (t ≡ turns rule mix extra blocks even odd block i) × (t .sum < 4294967296)
 
 abbrev μ-loop : tie.MeasureT-loop
-μ-loop mix rounds extra blocks even odd block t₀ i₀ t i = rounds - i
+μ-loop rule mix rounds extra blocks even odd block t₀ i₀ t i = rounds - i
 
 slice-aggregate-setup : tie.Need-slice-aggregate-setup Inv-loop μ-loop
 slice-aggregate-setup c = search needs
@@ -50,7 +50,7 @@ unfolding sumAfter
 returns c =
     let a = c .before .before .before .before .before .before .before .before .args in
     let all : c .before .loop .i ≡ a .rounds = omega arith in
-    ap (λ (t : Turn). t .sum) (c .before .loop .inv .1 ∙ ap (turns (a .mix) (a .extra) (a .blocks) (a .even .now) (a .odd .now) (a .block .now)) all)
+    ap (λ (t : Turn). t .sum) (c .before .loop .inv .1 ∙ ap (turns (a .rule) (a .mix) (a .extra) (a .blocks) (a .even .now) (a .odd .now) (a .block .now)) all)
 
 pub bench-session-spec : {M : Type 1} → statement M
 bench-session-spec =

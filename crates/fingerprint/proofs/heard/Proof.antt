@@ -16,11 +16,11 @@ use Rattle.fingerprint.proofs.heard.Statement.{statement}
 use Rattle.fingerprint.proofs.heard.Tie as tie
 
 abbrev Inv-loop : tie.InvT-loop
-Inv-loop d block mix size n pause rest₀ wait₀ v₀ at₀ i₀ rest wait v at i =
-    (i ≤ n) × (at ≡ i * size) × (withFiltersOf rest v wait ≡ after d rest₀ (valuesAt mix block 0 i))
+Inv-loop rule d block mix size n pause rest₀ wait₀ v₀ at₀ i₀ rest wait v at i =
+    (i ≤ n) × (at ≡ i * size) × (withFiltersOf rest v wait ≡ after d rest₀ (valuesAt rule mix block 0 i))
 
 abbrev μ-loop : tie.MeasureT-loop
-μ-loop d block mix size n pause rest₀ wait₀ v₀ at₀ i₀ rest wait v at i = n - i
+μ-loop rule d block mix size n pause rest₀ wait₀ v₀ at₀ i₀ rest wait v at i = n - i
 
 -- m more instants lie within the block
 room : (c : tie.At-loop Inv-loop μ-loop) (m : ℕ) → c .loop .i + m ≤ c .before .before .instants-in .result
@@ -77,9 +77,9 @@ loop-again c =
     let b = c .before .before .before .before .before .before .before .before .before .before .args in
     let a = c .before .before .instant-value in
     let v = c .before .next-filters in
-    let h = valuesAt (b .f .mix) (b .block .now) 0 (l .i) in
-    let e : a .result ≡ instantValue (b .f .mix) (b .block .now) (0 + l .i * instantBytes (b .f .mix)) =
-    a .ensures ∙ ap (instantValue (b .f .mix) (b .block .now)) (l .inv .1 ∙ (ap (_*_ (l .i)) (size .ensures) ∙ omega arith)) in (
+    let h = valuesAt (b .rule) (b .f .mix) (b .block .now) 0 (l .i) in
+    let e : a .result ≡ instantValue (b .rule) (b .f .mix) (b .block .now) (0 + l .i * instantBytes (b .f .mix)) =
+    a .ensures ∙ ap (instantValue (b .rule) (b .f .mix) (b .block .now)) (l .inv .1 ∙ (ap (_*_ (l .i)) (size .ensures) ∙ omega arith)) in (
       omega arith,
       omega arith,
       rw add-one
@@ -131,7 +131,7 @@ loop-again-2 c =
     let b = c .before .before .before .before .before .before .before .before .before .args in (
       omega arith,
       omega arith,
-      run-on (b .d) (b .f) (l .rest) (l .v) (c .through .result) (l .wait) (b .f .mix) (b .block .now) (l .at) (l .i) (c .before .least .result)
+      run-on (b .d) (b .f) (l .rest) (l .v) (c .through .result) (l .wait) (b .rule) (b .f .mix) (b .block .now) (l .at) (l .i) (c .before .least .result)
           (l .inv .2) (l .inv .1 ∙ ap (_*_ (l .i)) (size .ensures)) (omega arith) (c .through .ensures),
     )
 
@@ -145,7 +145,7 @@ returns c =
     let b = c .before .before .before .before .before .before .before .args in
     let n = c .before .before .before .before .instants-in in
     let all : l .i ≡ n .result = omega arith in
-    c .with-filters .ensures ∙ (l .inv .2 ∙ ap (λ (i : ℕ). after (b .d) (b .f) (valuesAt (b .f .mix) (b .block .now) 0 i)) (all ∙ n .ensures))
+    c .with-filters .ensures ∙ (l .inv .2 ∙ ap (λ (i : ℕ). after (b .d) (b .f) (valuesAt (b .rule) (b .f .mix) (b .block .now) 0 i)) (all ∙ n .ensures))
 
 pub heard-spec : {M : Type 1} → statement M
 heard-spec =

@@ -12,11 +12,11 @@ use Rattle.fingerprint.proofs.through_as.Statement.{statement}
 use Rattle.fingerprint.proofs.through_as.Tie as tie
 
 abbrev Inv-loop : tie.InvT-loop
-Inv-loop mix block at n size next₀ p₀ i₀ next p i =
-    (i ≤ n) × (p ≡ at + i * size) × (next ≡ throughOf next₀ (valuesAt mix block at i))
+Inv-loop rule mix block at n size next₀ p₀ i₀ next p i =
+    (i ≤ n) × (p ≡ at + i * size) × (next ≡ throughOf next₀ (valuesAt rule mix block at i))
 
 abbrev μ-loop : tie.MeasureT-loop
-μ-loop mix block at n size next₀ p₀ i₀ next p i = n - i
+μ-loop rule mix block at n size next₀ p₀ i₀ next p i = n - i
 
 instant-bytes-requires : tie.Need-instant-bytes-requires Inv-loop μ-loop
 instant-bytes-requires c κs = search needs
@@ -51,7 +51,7 @@ loop-again c =
     let l = c .before .before .before .loop in
     let size = c .before .before .before .before .instant-bytes in
     let a = c .before .before .before .before .before .before .args in
-    let e = c .before .instant-value .ensures ∙ ap (instantValue (a .mix) (a .block .now)) (l .inv .1 ∙ ap (λ (s : ℕ). a .at + l .i * s) (size .ensures)) in
+    let e = c .before .instant-value .ensures ∙ ap (instantValue (a .rule) (a .mix) (a .block .now)) (l .inv .1 ∙ ap (λ (s : ℕ). a .at + l .i * s) (size .ensures)) in
     (omega arith, omega arith, rw add-one (c .next-filters .ensures ∙ ap₂ nextFilters (l .inv .2) e))
 
 returns : tie.Need-returns Inv-loop μ-loop
@@ -59,7 +59,7 @@ returns c =
     let l = c .before .loop in
     let a = c .before .before .before .before .args in
     let all : l .i ≡ a .n = omega arith in
-    l .inv .2 ∙ ap (λ (n : ℕ). throughOf (a .v) (valuesAt (a .mix) (a .block .now) (a .at) n)) all
+    l .inv .2 ∙ ap (λ (n : ℕ). throughOf (a .v) (valuesAt (a .rule) (a .mix) (a .block .now) (a .at) n)) all
 
 pub through-as-spec : {M : Type 1} → statement M
 through-as-spec =

@@ -3,6 +3,7 @@ use mathlib.Core.Path.{refl, sym, ap, ap₂, _∙_}
 use mathlib.Core.List.{List, [], _∷_}
 use lib.IntN.{ℤ}
 use Rattle.sound.specs.Mix.{mixed, pseudoAbsolute}
+use Rattle.sound.proofs.Meaning.{mono-mixed}
 use Rattle.floats.specs.Instants.{floatValue}
 use borrow.Author.Needs.{needs}
 use Rattle.floats.proofs.value.Statement.{statement}
@@ -53,24 +54,27 @@ five-value-requires c κs = search needs
 returns : tie.Need-returns
 unfolding floatValue
 returns c =
+    let rule = c .before .before .before .before .before .args .rule in
     let g = c .before .before .before .i .given in
-    c .mono-value .ensures ∙ ap (λ (z : ℤ). pseudoAbsolute (mixed 1 (z ∷ []))) (c .before .bits-of .ensures) ∙ sym (ap floatValue (g .1))
+    c .mono-value .ensures ∙ ap pseudoAbsolute (c .before .bits-of .ensures ∙ sym (mono-mixed rule _)) ∙ sym (ap (floatValue rule) (g .1))
 
 returns-2 : tie.Need-returns-2
 unfolding floatValue
 returns-2 c =
+    let rule = c .before .before .before .before .before .before .args .rule in
     let g = c .before .before .before .before .i2 .given in
-    c .stereo-value .ensures ∙ ap (λ (zs : List ℤ). pseudoAbsolute (mixed 2 zs)) (ap₂ (λ (l r : ℤ). l ∷ r ∷ []) (c .before .before .bits-of2 .ensures) (c .before .bits-of3 .ensures))
-    ∙ sym (ap floatValue (g .1))
+    c .stereo-value .ensures ∙ ap (λ (zs : List ℤ). pseudoAbsolute (mixed rule 2 zs)) (ap₂ (λ (l r : ℤ). l ∷ r ∷ []) (c .before .before .bits-of2 .ensures) (c .before .bits-of3 .ensures))
+    ∙ sym (ap (floatValue rule) (g .1))
 
 returns-3 : tie.Need-returns-3
 unfolding floatValue
 returns-3 c =
+    let rule = c .before .before .before .before .before .before .before .before .before .args .rule in
     let g = c .before .before .before .before .before .before .before .i3 .given in
     c .five-value .ensures
-    ∙ ap (λ (zs : List ℤ). pseudoAbsolute (mixed 5 zs))
+    ∙ ap (λ (zs : List ℤ). pseudoAbsolute (mixed rule 5 zs))
     (ap₂ _∷_ (c .before .before .before .before .before .bits-of4 .ensures) (ap₂ _∷_ (c .before .before .before .before .bits-of5 .ensures) (ap₂ _∷_ (c .before .before .before .bits-of6 .ensures) (ap₂ _∷_ (c .before .before .bits-of7 .ensures) (ap₂ _∷_ (c .before .bits-of8 .ensures) refl)))))
-    ∙ sym (ap floatValue (g .1))
+    ∙ sym (ap (floatValue rule) (g .1))
 
 pub value-spec : {M : Type 1} → statement M
 value-spec =

@@ -62,7 +62,7 @@ returns-3 c =
     heard-own (a .s) (a .k) (r .result) (r .ensures) (c .before .before .before .before .before .before .if1 .left) _ _ (n .result)
     (n .ensures ∙ ap (λ (d : ℕ). instantNumber d (getD (a .s .fingerprints) (a .k) noFingerprint) (a .i)) (i .ensures))
     (c .before .if2 .left) (c .heard-instant .result)
-    (c .heard-instant .ensures ∙ ap (λ (d : ℕ). stepOf d (getD (a .s .fingerprints) (a .k) noFingerprint) (floatValue (a .i))) (i .ensures))
+    (c .heard-instant .ensures ∙ ap (λ (d : ℕ). stepOf d (getD (a .s .fingerprints) (a .k) noFingerprint) (floatValue (a .s .programme .settings .rule) (a .i))) (i .ensures))
 
 pub instant-spec : {M : Type 1} → statement M
 instant-spec =

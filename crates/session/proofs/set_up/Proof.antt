@@ -24,7 +24,7 @@ returns : tie.Need-returns
 unfolding setUpWith
 returns c =
     let a = c .before .before .before .args in
-    let settings : Settings = record { format = a .format; rate = a .rate; count = a .count } in
+    let settings : Settings = record { format = a .format; rate = a .rate; rule = a .rule; count = a .count } in
     ap (λ (p : Picture). with settings p (c .fresh-fingerprints .result)) (c .before .fresh .ensures) ∙ ap (λ (l : List Fingerprint). with settings freshPicture l) (c .fresh-fingerprints .ensures)
 
 pub set-up-spec : {M : Type 1} → statement M

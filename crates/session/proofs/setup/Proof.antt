@@ -12,7 +12,7 @@ use Rattle.session.proofs.setup.Statement.{statement}
 use Rattle.session.proofs.setup.Tie as tie
 
 few : (c : tie.Else1) → length (c .before .before .before .args .mixes .now) ≤ 32
-few c = let a = c .before .before .before .args in setup-few (a .format) (a .rate) (a .mixes .now) (sym (c .before .setup-number .ensures) ∙ c .if1 .left)
+few c = let a = c .before .before .before .args in setup-few (a .format) (a .rate) (a .rule) (a .mixes .now) (sym (c .before .setup-number .ensures) ∙ c .if1 .left)
 
 abbrev begun : ℕ → Session → Begun
 begun n s = record { number = n; session = s }
@@ -33,7 +33,7 @@ returns c =
     let e = c .before .before .before .setup-number .ensures in
     ap (λ (s : Session). begun (c .before .before .before .setup-number .result) s) (c .set-up .ensures)
     ∙ ap (λ (n : ℕ). begun n emptySession) e
-    ∙ setup-1 (a .format) (a .rate) (a .mixes .now) (λ z. c .before .before .if1 .taken (e ∙ z))
+    ∙ setup-1 (a .format) (a .rate) (a .rule) (a .mixes .now) (λ z. c .before .before .if1 .taken (e ∙ z))
 
 cast-set-up : tie.Need-cast-set-up
 cast-set-up c = omega (arith, few c)
@@ -44,7 +44,7 @@ set-up-requires-2 c κs = omega (arith, few c)
 returns-2 : tie.Need-returns-2
 returns-2 c =
     let a = c .before .before .before .before .args in
-    ap (λ (s : Session). begun 0 s) (c .set-up2 .ensures) ∙ setup-0 (a .format) (a .rate) (a .mixes .now) (sym (c .before .before .setup-number .ensures) ∙ c .before .if1 .left)
+    ap (λ (s : Session). begun 0 s) (c .set-up2 .ensures) ∙ setup-0 (a .format) (a .rate) (a .rule) (a .mixes .now) (sym (c .before .before .setup-number .ensures) ∙ c .before .if1 .left)
 
 pub setup-spec : {M : Type 1} → statement M
 setup-spec =

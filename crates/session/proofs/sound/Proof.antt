@@ -61,7 +61,7 @@ returns-3 c =
     heard-own (a .s) (a .k) (r .result) (r .ensures) (c .before .before .before .before .before .before .if1 .left) _ _ (n .result)
     (n .ensures ∙ ap (λ (d : ℕ). soundNumber d (getD (a .s .fingerprints) (a .k) noFingerprint) (length (a .block .now))) (i .ensures))
     (c .before .if2 .left) (c .heard .result)
-    (c .heard .ensures ∙ ap (λ (d : ℕ). heardOf d (getD (a .s .fingerprints) (a .k) noFingerprint) (a .block .now)) (i .ensures))
+    (c .heard .ensures ∙ ap (λ (d : ℕ). heardOf (a .s .programme .settings .rule) d (getD (a .s .fingerprints) (a .k) noFingerprint) (a .block .now)) (i .ensures))
 
 pub sound-spec : {M : Type 1} → statement M
 sound-spec =

@@ -70,7 +70,7 @@ returns c =
     let xs = l .result ∷ r .result ∷ m .result ∷ ls .result ∷ rs .result ∷ [] in
     let zs = signed (a .l) ∷ signed (a .r) ∷ signed (a .c) ∷ signed (a .ls) ∷ signed (a .rs) ∷ [] in
     let e : map lowered xs ≡ zs = cc (l .ensures .1, r .ensures .1, m .ensures .1, ls .ensures .1, rs .ensures .1) in
-    value-raised 5 zs xs (7071 * l .result + 7071 * r .result + 10000 * m .result + 5000 * ls .result + 5000 * rs .result) 1118765056 _ _
+    value-raised (a .rule) 5 zs xs (7071 * l .result + 7071 * r .result + 10000 * m .result + 5000 * ls .result + 5000 * rs .result) 1118765056 _ _
     e (omega arith) refl (c .before .rounded .ensures) (c .pseudo-absolute .ensures)
 
 pub five-value-spec : {M : Type 1} → statement M

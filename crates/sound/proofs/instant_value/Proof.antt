@@ -14,7 +14,7 @@ use Rattle.sound.proofs.instant_value.Tie as tie
 returns : tie.Need-returns
 returns c =
     let a = c .before .before .args in
-    past-value (a .mix) (a .block .now) (a .at) (omega arith)
+    past-value (a .rule) (a .mix) (a .block .now) (a .at) (omega arith)
 
 instant-bytes-requires : tie.Need-instant-bytes-requires
 instant-bytes-requires c κs = search needs
@@ -58,8 +58,8 @@ returns-3 c =
     let all : take (length b - a .at) (drop (a .at) b) ≡ drop (a .at) b =
     take-all (length b - a .at) (drop (a .at) b) (omega (arith, length-drop (a .at) b)) in
     c .whole-value2 .ensures
-    ∙ (ap (λ (l : List ℕ). instantValue (a .mix) l 0) (c .before .before .before .copy-at .ensures ∙ ap (sets (replicate 10 0) 0) all)
-    ∙ cut-value (a .mix) b (a .at) (omega arith) (omega (arith, few-bytes (a .mix))))
+    ∙ (ap (λ (l : List ℕ). instantValue (a .rule) (a .mix) l 0) (c .before .before .before .copy-at .ensures ∙ ap (sets (replicate 10 0) 0) all)
+    ∙ cut-value (a .rule) (a .mix) b (a .at) (omega arith) (omega (arith, few-bytes (a .mix))))
 
 pub instant-value-spec : {M : Type 1} → statement M
 instant-value-spec =

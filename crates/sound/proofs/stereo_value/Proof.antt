@@ -37,7 +37,7 @@ returns c =
     let a = c .before .before .before .before .args in
     let l = c .before .before .before .raised in
     let r = c .before .before .raised2 in
-    value-raised 2 (signed (a .l) ∷ signed (a .r) ∷ []) (l .result ∷ r .result ∷ []) (7071 * l .result + 7071 * r .result) 463405056 _ _
+    value-raised (a .rule) 2 (signed (a .l) ∷ signed (a .r) ∷ []) (l .result ∷ r .result ∷ []) (7071 * l .result + 7071 * r .result) 463405056 _ _
     (ap₂ (λ (y z : ℤ). y ∷ z ∷ []) (l .ensures .1) (r .ensures .1)) (omega arith) refl (c .before .rounded .ensures) (c .pseudo-absolute .ensures)
 
 pub stereo-value-spec : {M : Type 1} → statement M

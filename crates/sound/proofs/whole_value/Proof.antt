@@ -1,9 +1,10 @@
 -- `sound::whole_value` meets its contract.
-use mathlib.Core.Path.{_≡_, ap, ap₂}
+use mathlib.Core.Path.{_≡_, sym, ap, ap₂, _∙_}
 use mathlib.Core.List.{[], _∷_}
 use native.Mathlib.Omega.{arith}
 use lib.IntN.{ℤ}
-use Rattle.sound.specs.Mix.{signed, instantSamples, weights, instantBytes}
+use Rattle.sound.specs.Mix.{signed, instantSamples, weights, pseudoAbsolute, instantBytes}
+use Rattle.sound.proofs.Meaning.{mono-mixed}
 use Rattle.sound.proofs.Instants.{five-samples, value-of, bytes-of, not-listed}
 use borrow.Author.Needs.{needs}
 use Rattle.sound.proofs.whole_value.Statement.{statement}
@@ -19,7 +20,7 @@ mono-value-requires c κs = search needs
 returns : tie.Need-returns
 unfolding weights instantSamples
 returns c =
-    value-of _ 1 _ _ _ _ (c .before .before .if1 .taken) (c .mono-value .ensures) (ap (λ (z : ℤ). z ∷ []) (c .before .sample .ensures))
+    value-of _ _ 1 _ _ _ _ (c .before .before .if1 .taken) (c .mono-value .ensures ∙ ap pseudoAbsolute (sym (mono-mixed (c .before .before .before .before .args .rule) _))) (ap (λ (z : ℤ). z ∷ []) (c .before .sample .ensures))
 
 sample-requires-2 : tie.Need-sample-requires-2
 unfolding instantBytes weights
@@ -38,7 +39,7 @@ stereo-value-requires c κs = search needs
 returns-2 : tie.Need-returns-2
 unfolding weights instantSamples
 returns-2 c =
-    value-of _ 2 _ _ _ _ (c .before .before .before .if2 .taken) (c .stereo-value .ensures)
+    value-of _ _ 2 _ _ _ _ (c .before .before .before .if2 .taken) (c .stereo-value .ensures)
     (ap₂ (λ (y z : ℤ). y ∷ z ∷ []) (c .before .before .sample2 .ensures) (c .before .sample3 .ensures))
 
 sample-requires-4 : tie.Need-sample-requires-4
@@ -88,10 +89,10 @@ returns-3 c =
     let zs = signed (l .result) ∷ signed (r .result) ∷ signed (m .result) ∷ signed (ls .result) ∷ signed (rs .result) ∷ [] in
     let e : zs ≡ instantSamples (a .block .now) (a .at) 5 =
     cc (five-samples (a .block .now) (a .at), l .ensures, r .ensures, m .ensures, ls .ensures, rs .ensures) in
-    value-of (a .mix) 5 (a .block .now) (a .at) zs (c .five-value .result) (c .before .before .before .before .before .before .if3 .taken) (c .five-value .ensures) e
+    value-of (a .rule) (a .mix) 5 (a .block .now) (a .at) zs (c .five-value .result) (c .before .before .before .before .before .before .if3 .taken) (c .five-value .ensures) e
 
 returns-4 : tie.Need-returns-4
-returns-4 c = not-listed _ _ _ (c .before .before .if1 .left) (c .before .if2 .left) (c .if3 .left)
+returns-4 c = not-listed _ _ _ _ (c .before .before .if1 .left) (c .before .if2 .left) (c .if3 .left)
 
 pub whole-value-spec : {M : Type 1} → statement M
 whole-value-spec =

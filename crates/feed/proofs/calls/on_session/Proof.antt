@@ -66,12 +66,19 @@ returns-7 : tie.Need-returns-7
 unfolding sessionFed
 returns-7 c = rw (ne-eqb _ 0x10 (c .before .before .before .before .before .before .before .if1 .left), ne-eqb _ 0x11 (c .before .before .before .before .before .before .if2 .left), ne-eqb _ 0x12 (c .before .before .before .before .before .if3 .left), ne-eqb _ 0x13 (c .before .before .before .before .if4 .left), ne-eqb _ 0x14 (c .before .before .before .if5 .left), ne-eqb _ 0x15 (c .before .before .if6 .left), eq-eqb _ 0x16 (c .before .if7 .taken)) (c .instant .ensures, c .before .before .before .before .before .before .before .before .before .before .pre)
 
-bad-requires : tie.Need-bad-requires
-bad-requires c κs = search needs
+ruled-requires : tie.Need-ruled-requires
+ruled-requires c κs = search needs
 
 returns-8 : tie.Need-returns-8
 unfolding sessionFed
-returns-8 c = rw (ne-eqb _ 0x10 (c .before .before .before .before .before .before .before .if1 .left), ne-eqb _ 0x11 (c .before .before .before .before .before .before .if2 .left), ne-eqb _ 0x12 (c .before .before .before .before .before .if3 .left), ne-eqb _ 0x13 (c .before .before .before .before .if4 .left), ne-eqb _ 0x14 (c .before .before .before .if5 .left), ne-eqb _ 0x15 (c .before .before .if6 .left), ne-eqb _ 0x16 (c .before .if7 .left)) (c .bad .ensures, c .before .before .before .before .before .before .before .before .before .before .pre)
+returns-8 c = rw (ne-eqb _ 0x10 (c .before .before .before .before .before .before .before .before .if1 .left), ne-eqb _ 0x11 (c .before .before .before .before .before .before .before .if2 .left), ne-eqb _ 0x12 (c .before .before .before .before .before .before .if3 .left), ne-eqb _ 0x13 (c .before .before .before .before .before .if4 .left), ne-eqb _ 0x14 (c .before .before .before .before .if5 .left), ne-eqb _ 0x15 (c .before .before .before .if6 .left), ne-eqb _ 0x16 (c .before .before .if7 .left), eq-eqb _ 0x17 (c .before .if8 .taken)) (c .ruled .ensures, c .before .before .before .before .before .before .before .before .before .before .before .pre)
+
+bad-requires : tie.Need-bad-requires
+bad-requires c κs = search needs
+
+returns-9 : tie.Need-returns-9
+unfolding sessionFed
+returns-9 c = rw (ne-eqb _ 0x10 (c .before .before .before .before .before .before .before .before .if1 .left), ne-eqb _ 0x11 (c .before .before .before .before .before .before .before .if2 .left), ne-eqb _ 0x12 (c .before .before .before .before .before .before .if3 .left), ne-eqb _ 0x13 (c .before .before .before .before .before .if4 .left), ne-eqb _ 0x14 (c .before .before .before .before .if5 .left), ne-eqb _ 0x15 (c .before .before .before .if6 .left), ne-eqb _ 0x16 (c .before .before .if7 .left), ne-eqb _ 0x17 (c .before .if8 .left)) (c .bad .ensures, c .before .before .before .before .before .before .before .before .before .before .before .pre)
 
 pub on-session-spec : {M : Type 1} → statement M
 on-session-spec =
@@ -94,5 +101,7 @@ on-session-spec =
     returns-6
     instant-requires
     returns-7
+    ruled-requires
+    returns-8
     bad-requires
-    returns-8)
+    returns-9)

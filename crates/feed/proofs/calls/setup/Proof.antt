@@ -1,5 +1,7 @@
 -- `feed::calls::setup` meets its contract.
 use mathlib.Core.Path.{ap, _∙_}
+use mathlib.Core.List.{List}
+use Prim.Native.Nat.{ℕ}
 use lib.ListN.{length, getD}
 use Rattle.records.specs.Records.{byteAt}
 use Rattle.session.specs.Session.{setupOf}
@@ -17,29 +19,29 @@ returns : tie.Need-returns
 unfolding setupFed
 returns c = c .bad .ensures ∙ when-short 2 (length (c .before .before .before .args .payload .now)) _ _ (c .before .if1 .taken)
 
-shared-slice-read-setup : tie.Need-shared-slice-read-setup
-shared-slice-read-setup c = search needs
+shared-slice-read-begin : tie.Need-shared-slice-read-begin
+shared-slice-read-begin c = search needs
 
-shared-slice-read-setup-2 : tie.Need-shared-slice-read-setup-2
-shared-slice-read-setup-2 c = search needs
+shared-slice-read-begin-2 : tie.Need-shared-slice-read-begin-2
+shared-slice-read-begin-2 c = search needs
 
-sub-setup : tie.Need-sub-setup
-sub-setup c = search needs
+sub-begin : tie.Need-sub-begin
+sub-begin c = search needs
 
-part-setup-start : tie.Need-part-setup-start
-part-setup-start c = search needs
+part-begin-start : tie.Need-part-begin-start
+part-begin-start c = search needs
 
-part-setup-end : tie.Need-part-setup-end
-part-setup-end c = search needs
+part-begin-end : tie.Need-part-begin-end
+part-begin-end c = search needs
 
-setup-requires : tie.Need-setup-requires
-setup-requires c κs = search needs
+begin-requires : tie.Need-begin-requires
+begin-requires c κs = search needs
 
 returns-2 : tie.Need-returns-2
-unfolding setupFed begun byteAt
+unfolding setupFed byteAt
 returns-2 c =
-    let p = c .before .before .before .before .before .before .before .args .payload .now in
-    ap begun (c .before .setup .ensures ∙ ap (setupOf (getD p 0 0) (getD p 1 0)) (tail-is 2 p)) ∙ when-enough 2 (length p) _ _ (c .before .before .before .before .before .if1 .left)
+    let p = c .before .before .before .before .before .before .args .payload .now in
+    c .begin .ensures ∙ ap (λ (l : List ℕ). begun (setupOf (getD p 0 0) (getD p 1 0) 1 l)) (tail-is 2 p) ∙ when-enough 2 (length p) _ _ (c .before .before .before .before .if1 .left)
 
 pub setup-spec : {M : Type 1} → statement M
 setup-spec =
@@ -47,10 +49,10 @@ setup-spec =
     (tie.spec
     bad-requires
     returns
-    shared-slice-read-setup
-    shared-slice-read-setup-2
-    sub-setup
-    part-setup-start
-    part-setup-end
-    setup-requires
+    shared-slice-read-begin
+    shared-slice-read-begin-2
+    sub-begin
+    part-begin-start
+    part-begin-end
+    begin-requires
     returns-2)
