@@ -15,14 +15,50 @@ pub fn instant_size(mix_type: u8) -> Option<usize> {
     }
 }
 
-/// One instant mixed to mono (000, 5.3.1), rounded towards minus infinity (01, Audio).
-pub fn mix(samples: &[i64]) -> i64 {
+/// The mixing rule that the two ends have agreed on (02, A9).
+#[derive(Debug, Clone, Copy, PartialEq, Eq)]
+pub enum Rule {
+    /// 1: towards minus infinity (01, Audio).
+    Down,
+    /// 2: towards zero.
+    TowardsZero,
+}
+
+impl Rule {
+    pub fn numbered(number: u8) -> Option<Rule> {
+        match number {
+            1 => Some(Rule::Down),
+            2 => Some(Rule::TowardsZero),
+            _ => None,
+        }
+    }
+
+    /// What a fraction is rounded to: of the two whole numbers around it, which are one where it is whole, the lower
+    /// or the one of less size. The denominator is above 0.
+    pub fn rounded(self, numerator: i64, denominator: i64) -> i64 {
+        let lower = numerator.div_euclid(denominator);
+        let upper = lower + i64::from(lower * denominator < numerator);
+        match self {
+            Rule::TowardsZero if upper.abs() < lower.abs() => upper,
+            Rule::Down | Rule::TowardsZero => lower,
+        }
+    }
+}
+
+/// The weighted sum of one instant's samples, and what it is divided by (000, 5.3.1; 01, Audio).
+pub fn weighted_sum(samples: &[i64]) -> (i64, i64) {
     match *samples {
-        [mono] => mono,
-        [l, r] => (7071 * (l + r)).div_euclid(20_000),
-        [l, r, c, ls, rs] => (7071 * l + 7071 * r + 10_000 * c + 5000 * ls + 5000 * rs).div_euclid(40_000),
+        [mono] => (mono, 1),
+        [l, r] => (7071 * (l + r), 20_000),
+        [l, r, c, ls, rs] => (7071 * l + 7071 * r + 10_000 * c + 5000 * ls + 5000 * rs, 40_000),
         _ => panic!("an instant has one, two or five samples"),
     }
+}
+
+/// One instant mixed to mono.
+pub fn mix(samples: &[i64], rule: Rule) -> i64 {
+    let (sum, denominator) = weighted_sum(samples);
+    rule.rounded(sum, denominator)
 }
 
 /// 000, 5.3.2: one's complement of a negative value.
@@ -44,6 +80,7 @@ fn lent_samples(instant: &[u8]) -> Vec<i64> {
 pub struct Sound {
     pub mix_type: u8,
     pub decimator: usize,
+    pub rule: Rule,
     pub value: Vec<i64>,
     pub envelope: Vec<i64>,
     pub mean: Vec<i64>,
@@ -54,9 +91,9 @@ pub struct Sound {
 }
 
 impl Sound {
-    pub fn new(mix_type: u8, decimator: usize) -> Sound {
+    pub fn new(mix_type: u8, decimator: usize, rule: Rule) -> Sound {
         let (value, envelope, mean, bits) = (Vec::new(), Vec::new(), Vec::new(), Vec::new());
-        Sound { mix_type, decimator, value, envelope, mean, bits, packed: 0 }
+        Sound { mix_type, decimator, rule, value, envelope, mean, bits, packed: 0 }
     }
 
     pub fn instant_size(&self) -> usize {
@@ -112,7 +149,7 @@ impl Sound {
 
     /// Sample i: E(0) = M(0) = 0 and sample 0 enters neither filter (01, Audio; 000, 5.3.3 to 5.3.6).
     fn enter(&mut self, samples: &[i64]) {
-        let a = pseudo_absolute(mix(samples));
+        let a = pseudo_absolute(mix(samples, self.rule));
         let i = self.value.len();
         let (envelope, mean) = if i == 0 {
             (0, 0)
@@ -153,24 +190,24 @@ mod tests {
 
     #[test]
     fn the_5_1_mix_by_hand() {
-        assert_eq!(mix(&[40_000, 0, 0, 0, 0]), 7071);
-        assert_eq!(mix(&[0, 0, 4, 0, 0]), 1);
-        assert_eq!(mix(&[0, 0, -1, 0, 0]), -1, "-0.25 goes down to -1");
-        assert_eq!(mix(&[0, 0, 0, 4, 3]), 0, "0.875 goes down to 0");
+        assert_eq!(mix(&[40_000, 0, 0, 0, 0], Rule::Down), 7071);
+        assert_eq!(mix(&[0, 0, 4, 0, 0], Rule::Down), 1);
+        assert_eq!(mix(&[0, 0, -1, 0, 0], Rule::Down), -1, "-0.25 goes down to -1");
+        assert_eq!(mix(&[0, 0, 0, 4, 3], Rule::Down), 0, "0.875 goes down to 0");
         // (7071 x 2 + 10000 + 5000 x 2) x -32768 / 40000 = 34142 x -0.8192 = -27969.1264
-        assert_eq!(mix(&[-32768; 5]), -27970);
+        assert_eq!(mix(&[-32768; 5], Rule::Down), -27970);
     }
 
     #[test]
     fn samples_come_interleaved_low_byte_first() {
-        let mut sound = Sound::new(2, 50);
+        let mut sound = Sound::new(2, 50, Rule::Down);
         sound.take_block(&[0, 0, 0, 0, 0x10, 0x27, 0x00, 0x00]).unwrap();
         assert_eq!(sound.value[1], 3535, "7071 x 10000 / 20000 = 3535.5");
     }
 
     #[test]
     fn sample_0_enters_neither_filter_and_its_bit_is_0() {
-        let mut sound = Sound::new(1, 50);
+        let mut sound = Sound::new(1, 50, Rule::Down);
         sound.take_block(&mono(&[32767, 1])).unwrap();
         assert_eq!((sound.envelope[0], sound.mean[0]), (0, 0));
         assert_eq!((sound.envelope[1], sound.mean[1]), (8, 1));
@@ -179,7 +216,7 @@ mod tests {
 
     #[test]
     fn bits_are_kept_at_multiples_of_d_and_fill_from_bit_0() {
-        let mut sound = Sound::new(1, 50);
+        let mut sound = Sound::new(1, 50, Rule::Down);
         sound.take_block(&mono(&[1000; 50])).unwrap();
         assert_eq!(sound.bits.len(), 1, "sample 50 has not come");
         sound.take_block(&mono(&[1000; 301])).unwrap();
@@ -190,7 +227,7 @@ mod tests {
 
     #[test]
     fn a_refused_block_changes_nothing() {
-        let mut sound = Sound::new(5, 52);
+        let mut sound = Sound::new(5, 52, Rule::Down);
         assert_eq!(sound.take_block(&[0; 11]), Err(8));
         assert_eq!(sound.take_block(&vec![0; 10 * (52 * 256 + 1)]), Err(9));
         assert!(sound.value.is_empty() && sound.bits.is_empty());

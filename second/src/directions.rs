@@ -52,7 +52,7 @@ fn run(session: &mut Session, fields: &[Vec<u8>]) -> (Vec<FieldEnd>, Vec<Vec<u8>
 }
 
 fn fresh((format, rate): (u8, u8)) -> Session {
-    setup(format, rate, &[1]).unwrap()
+    setup(format, rate, 1, &[1]).unwrap()
 }
 
 /// What the last of three progressive fields tells: the third against the first.

@@ -107,9 +107,10 @@ pub fn examine_session(session: &Session, tally: &mut Tally) -> Result<(), Strin
 #[cfg(test)]
 mod tests {
     use super::*;
+    use crate::audio::Rule;
 
     fn loud_then_silent() -> Sound {
-        let mut sound = Sound::new(1, 50);
+        let mut sound = Sound::new(1, 50, Rule::Down);
         let block = |value: i16, count: usize| value.to_le_bytes().repeat(count);
         sound.take_block(&block(3, 700)).unwrap();
         sound.take_block(&block(-32768, 1500)).unwrap();

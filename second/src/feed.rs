@@ -40,6 +40,21 @@ fn next_record(input: &mut impl Read) -> io::Result<Next> {
     Ok(if payload.len() < size { Next::CutShort } else { Next::Record { tag, payload } })
 }
 
+/// A record as a feed has it.
+pub fn record(tag: u8, payload: &[u8]) -> Vec<u8> {
+    let size = u16::try_from(payload.len()).expect("a payload has at most 65,535 bytes");
+    [&[tag], &size.to_be_bytes()[..], payload].concat()
+}
+
+/// The records of a feed up to its end or to one cut short, each as tag and payload.
+pub fn records(mut feed: &[u8]) -> Vec<(u8, Vec<u8>)> {
+    let mut records = Vec::new();
+    while let Ok(Next::Record { tag, payload }) = next_record(&mut feed) {
+        records.push((tag, payload));
+    }
+    records
+}
+
 /// Reads the fixed part of a payload from its front.
 struct Payload<'a>(&'a [u8]);
 
@@ -144,9 +159,9 @@ impl Desk {
         }
     }
 
-    fn setup(&mut self, format: u8, rate: u8, mix_types: &[u8]) -> String {
+    fn setup(&mut self, format: u8, rate: u8, rule: u8, mix_types: &[u8]) -> String {
         self.examine_sound();
-        let answer = session::setup(format, rate, mix_types);
+        let answer = session::setup(format, rate, rule, mix_types);
         let number = answer.as_ref().err().copied().unwrap_or(0);
         self.session = answer.unwrap_or_default();
         format!("setup {number}")
@@ -167,7 +182,9 @@ impl Desk {
     pub fn call(&mut self, tag: u8, payload: &[u8]) -> Result<String, BadRecord> {
         let mut part = Payload(payload);
         let line = match tag {
-            0x10 => self.setup(part.byte()?, part.byte()?, part.0),
+            // "10h stays: rule 1" (FEED, A9)
+            0x10 => self.setup(part.byte()?, part.byte()?, 1, part.0),
+            0x17 => self.setup(part.byte()?, part.byte()?, part.byte()?, part.0),
             0x11 => self.line(part.u16()?, part.0),
             0x12 => format!("sound {}", self.session.sound(part.byte()?, part.0).err().unwrap_or(0)),
             0x13 => {
@@ -236,19 +253,15 @@ pub fn run(input: &mut impl Read, output: &mut impl Write, exact: bool) -> io::R
 }
 
 #[cfg(test)]
+pub fn printed(feed: &[u8]) -> String {
+    let mut output = Vec::new();
+    run(&mut &feed[..], &mut output, false).unwrap();
+    String::from_utf8(output).unwrap()
+}
+
+#[cfg(test)]
 mod tests {
     use super::*;
-
-    fn printed(feed: &[u8]) -> String {
-        let mut output = Vec::new();
-        run(&mut &feed[..], &mut output, false).unwrap();
-        String::from_utf8(output).unwrap()
-    }
-
-    fn record(tag: u8, payload: &[u8]) -> Vec<u8> {
-        let size = (payload.len() as u16).to_be_bytes();
-        [&[tag], &size[..], payload].concat()
-    }
 
     #[test]
     fn one_line_a_record() {
@@ -341,8 +354,11 @@ mod tests {
             assert_eq!(printed(cut_short), "bad record\n");
         }
         let bad = [
-            record(0x17, &[]),
+            record(0x18, &[]),
             record(0x10, &[2]),
+            record(0x17, &[]),
+            record(0x17, &[2]),
+            record(0x17, &[2, 5]),
             record(0x11, &[0]),
             record(0x12, &[]),
             record(0x13, &[0x10, 0x01]),

@@ -1,6 +1,6 @@
 // figures.rs: tests of every figure in 01, "Figures to check against", and of 000's note on the pseudo absolute value.
 
-use crate::audio::{mix, pseudo_absolute, Sound};
+use crate::audio::{mix, pseudo_absolute, Rule, Sound};
 use crate::container::{self, AudioPlace, VideoValues};
 use crate::video::{difference, fingerprint_of_count, went_brighter, went_darker};
 use crate::{inspect, packet, session};
@@ -26,15 +26,18 @@ fn pseudo_absolute_values() {
     assert_eq!([-1000, -32768, 1000].map(pseudo_absolute), [999, 32767, 1000]);
 }
 
+/// Also 02, A9: "L = R = -2 mixes to -1 under rule 2".
 #[test]
 fn stereo_mixes() {
-    assert_eq!(mix(&[-2, -2]), -2);
-    assert_eq!(mix(&[-32768, -32768]), -23171);
+    assert_eq!(mix(&[-2, -2], Rule::Down), -2);
+    assert_eq!(mix(&[-2, -2], Rule::TowardsZero), -1);
+    assert_eq!(mix(&[-32768, -32768], Rule::Down), -23171);
+    assert_eq!(mix(&[-32768, -32768], Rule::TowardsZero), -23170, "-23170.2528");
 }
 
 #[test]
 fn two_steps_of_the_filters() {
-    let mut sound = Sound::new(1, 50);
+    let mut sound = Sound::new(1, 50, Rule::Down);
     let block: Vec<u8> = [0i16, 1000, 0].iter().flat_map(|sample| sample.to_le_bytes()).collect();
     sound.take_block(&block).unwrap();
     assert_eq!(sound.value[1..], [1000, 0]);
@@ -72,7 +75,7 @@ fn the_audio_container() {
 
 #[test]
 fn full_bit_store() {
-    let mut session = session::setup(2, 11, &[1]).unwrap();
+    let mut session = session::setup(2, 11, 1, &[1]).unwrap();
     session.sound(0, &vec![0; 2 * (50 * 255 + 1)]).unwrap();
     assert_eq!(session.0.as_ref().unwrap().sounds[0].held_bits(), 256);
     assert_eq!(session.sound(0, &[0; 2 * 50]), Err(9), "the 50th sample is kept");

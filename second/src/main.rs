@@ -18,6 +18,8 @@ mod inspect;
 mod make;
 mod packet;
 mod session;
+#[cfg(test)]
+mod two_rules;
 mod video;
 
 use std::io::{self, BufReader, BufWriter, Read, Write};

@@ -1,6 +1,6 @@
 // session.rs: a session from setup to packing (01, What the card's software does; What a caller is told).
 
-use crate::audio::{self, Sound};
+use crate::audio::{self, Rule, Sound};
 use crate::container::{self, AudioPlace, Contents, VideoValues, ID_SIZE, MOST_FINGERPRINTS};
 use crate::float::Float;
 use crate::formats::{Format, Rate};
@@ -11,6 +11,7 @@ use crate::video::{FieldEnd, Picture};
 pub struct Running {
     pub format: &'static Format,
     pub rate: &'static Rate,
+    pub rule: Rule,
     pub picture: Picture,
     pub sounds: Vec<Sound>,
     /// Containers packed since setup: the counter is its remainder by 256.
@@ -23,21 +24,19 @@ pub struct Running {
 #[derive(Debug, Clone, Default)]
 pub struct Session(pub Option<Running>);
 
-/// Setup: 1 where format, pairing, count or a mix type is not listed.
-pub fn setup(format: u8, rate: u8, mix_types: &[u8]) -> Result<Session, u8> {
+/// Setup: 1 where format, pairing, rule (02, A9), count or a mix type is not listed.
+pub fn setup(format: u8, rate: u8, rule: u8, mix_types: &[u8]) -> Result<Session, u8> {
     let format = Format::numbered(format).ok_or(1)?;
     let rate = Rate::coded(rate).ok_or(1)?;
+    let rule = Rule::numbered(rule).ok_or(1)?;
     let count_listed = (1..=MOST_FINGERPRINTS).contains(&mix_types.len());
     let mixes_listed = mix_types.iter().all(|&mix_type| audio::instant_size(mix_type).is_some());
     if !format.takes_rate(rate.code) || !count_listed || !mixes_listed {
         return Err(1);
     }
-    let sounds = fresh_sounds(mix_types, rate);
-    Ok(Session(Some(Running { format, rate, picture: Picture::default(), sounds, packed: 0, packed_with_audio: 0 })))
-}
-
-fn fresh_sounds(mix_types: &[u8], rate: &Rate) -> Vec<Sound> {
-    mix_types.iter().map(|&mix_type| Sound::new(mix_type, rate.decimator)).collect()
+    let sounds = mix_types.iter().map(|&mix_type| Sound::new(mix_type, rate.decimator, rule)).collect();
+    let picture = Picture::default();
+    Ok(Session(Some(Running { format, rate, rule, picture, sounds, packed: 0, packed_with_audio: 0 })))
 }
 
 impl Session {
@@ -74,8 +73,8 @@ impl Session {
     /// Clears all fingerprints and sets the cadence to frame 1 (01, Audio).
     pub fn audio_restart(&mut self) {
         if let Some(running) = &mut self.0 {
-            let mix_types: Vec<u8> = running.sounds.iter().map(|sound| sound.mix_type).collect();
-            running.sounds = fresh_sounds(&mix_types, running.rate);
+            let fresh = |sound: &Sound| Sound::new(sound.mix_type, running.rate.decimator, running.rule);
+            running.sounds = running.sounds.iter().map(fresh).collect();
             running.packed_with_audio = 0;
         }
     }
@@ -151,8 +150,8 @@ mod tests {
         bits.iter().map(|&bits| Float::of_bits(bits)).collect()
     }
 
-    fn ready_session(format: u8, rate: u8, mix_types: &[u8]) -> Session {
-        let mut session = setup(format, rate, mix_types).unwrap();
+    fn ready_session(format: u8, rate: u8, rule: u8, mix_types: &[u8]) -> Session {
+        let mut session = setup(format, rate, rule, mix_types).unwrap();
         run_frame(&mut session);
         session
     }
@@ -179,18 +178,18 @@ mod tests {
 
     #[test]
     fn setup_takes_listed_values_only() {
-        assert!(setup(2, 2, &[1; 32]).is_ok());
+        assert!(setup(2, 2, 1, &[1; 32]).is_ok());
         for (format, rate, mixes) in [(8, 5, &[1][..]), (0, 5, &[1]), (3, 8, &[1]), (2, 1, &[1]), (2, 12, &[1])] {
-            assert_eq!(setup(format, rate, mixes).err(), Some(1));
+            assert_eq!(setup(format, rate, 1, mixes).err(), Some(1));
         }
         for mixes in [&[][..], &[1; 33], &[0], &[1, 3], &[6]] {
-            assert_eq!(setup(2, 5, mixes).err(), Some(1));
+            assert_eq!(setup(2, 5, 1, mixes).err(), Some(1));
         }
     }
 
     #[test]
     fn pack_answers_in_order_and_a_refusal_keeps_the_frame() {
-        let mut session = setup(2, 11, &[1]).unwrap();
+        let mut session = setup(2, 11, 1, &[1]).unwrap();
         assert_eq!(session.pack(&[1], 0), Err(10));
         run_frame(&mut session);
         assert_eq!(session.pack(&[1], 0), Err(11));
@@ -201,7 +200,7 @@ mod tests {
 
     #[test]
     fn the_cadence_moves_with_audio_only() {
-        let mut session = ready_session(2, 5, &[1, 1]);
+        let mut session = ready_session(2, 5, 1, &[1, 1]);
         session.sound(0, &vec![0; 2 * 50 * 40]).unwrap();
         session.sound(1, &vec![0; 2 * 50 * 31]).unwrap();
         assert_eq!(session.pack(&[], 255).unwrap().len(), 5, "31 bits are no four bytes");
@@ -219,7 +218,7 @@ mod tests {
     #[test]
     fn what_is_packed_is_read_at_every_frame_of_every_cadence() {
         for rate in &RATES {
-            let mut session = setup(2, rate.code, &[1, 2]).unwrap();
+            let mut session = setup(2, rate.code, 1, &[1, 2]).unwrap();
             for frame in 0..41 {
                 let due = rate.bytes_due(frame);
                 session.sound(0, &vec![0; 2 * rate.decimator * 8 * due]).unwrap();
@@ -236,7 +235,7 @@ mod tests {
     #[test]
     fn a_session_packs_the_largest_container() {
         for format in [1, 3] {
-            let mut session = ready_session(format, 5, &[1; 32]);
+            let mut session = ready_session(format, 5, 1, &[1; 32]);
             (0..32).for_each(|k| session.sound(k, &vec![0; 2 * 50 * 8 * (4 + 5)]).unwrap());
             assert_eq!(session.pack(&[7; 20], 4096).unwrap().len(), 4 + 21 + (1 + 32 * (2 + 4)) + 1);
             run_frame(&mut session);
@@ -251,7 +250,7 @@ mod tests {
 
     #[test]
     fn the_counter_goes_from_255_to_0_and_outlives_restarts() {
-        let mut session = ready_session(2, 3, &[5]);
+        let mut session = ready_session(2, 3, 1, &[5]);
         for count in 0..300 {
             let container = session.pack(&[7; 20], 4096).unwrap();
             assert_eq!(usize::from(container[1]), count % 256);
@@ -264,7 +263,7 @@ mod tests {
 
     #[test]
     fn an_instant_answers_in_order_and_a_refusal_changes_nothing() {
-        let mut session = setup(2, 11, &[1, 2, 5]).unwrap();
+        let mut session = setup(2, 11, 1, &[1, 2, 5]).unwrap();
         session.sound(0, &vec![0; 2 * (50 * 256)]).unwrap();
         assert_eq!(session.instant(3, &floats(&[NAN])), Err(7), "7 before 14");
         assert_eq!(session.instant(0, &floats(&[NAN])), Err(14), "14 before 9");
@@ -286,7 +285,7 @@ mod tests {
 
     #[test]
     fn instants_are_counted_as_samples_of_blocks_are() {
-        let mut session = setup(2, 11, &[1]).unwrap();
+        let mut session = setup(2, 11, 1, &[1]).unwrap();
         session.sound(0, &vec![0; 2 * 50 * 255]).unwrap();
         for instant in 0..50 {
             assert_eq!(session.instant(0, &floats(&[0])), Ok(()), "instant {instant}; the first makes bit 256");
@@ -303,10 +302,12 @@ mod tests {
         loud.chain((0..3000 * channels).map(|at| noise(at) / 4096)).collect()
     }
 
+    /// Under both rules (02, A9).
     #[test]
     fn an_instant_of_k_over_32768_is_the_block_of_that_instant() {
-        for mix_type in [1, 2, 5] {
-            let (mut by_blocks, mut by_instants) = (ready_session(2, 3, &[mix_type]), ready_session(2, 3, &[mix_type]));
+        for (mix_type, rule) in [(1, 1), (2, 1), (5, 1), (1, 2), (2, 2), (5, 2)] {
+            let (mut by_blocks, mut by_instants) =
+                (ready_session(2, 3, rule, &[mix_type]), ready_session(2, 3, rule, &[mix_type]));
             for instant in samples(usize::from(mix_type)).chunks(usize::from(mix_type)) {
                 let block: Vec<u8> = instant.iter().flat_map(|sample| sample.to_le_bytes()).collect();
                 let bits: Vec<u32> = instant.iter().map(|&sample| bits_of_ratio(i64::from(sample), 15)).collect();

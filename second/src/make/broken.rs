@@ -1,7 +1,7 @@
 // make/broken.rs: feeds with a malformed record, and the calls that touch no session.
 
 use super::random::Random;
-use super::script::Script;
+use super::script::{pairs, Script};
 use super::{containers, contents, instants, lines, packets};
 use crate::feed::FLAT_SIZE;
 
@@ -17,7 +17,8 @@ pub fn aside(script: &mut Script) {
 
 /// A payload too short for its fixed part, or too long for it.
 fn wrong_size(script: &mut Script) {
-    let tags = [(0x10, 2), (0x11, 2), (0x12, 1), (0x13, 2), (0x16, 2), (0x20, 3), (0x22, 2), (0x23, 2), (0x24, 2)];
+    let tags =
+        [(0x10, 2), (0x11, 2), (0x12, 1), (0x13, 2), (0x16, 2), (0x17, 3), (0x20, 3), (0x22, 2), (0x23, 2), (0x24, 2)];
     match script.random.below(5) {
         0 => {
             let size = 1 + script.random.below(3);
@@ -36,6 +37,13 @@ fn wrong_size(script: &mut Script) {
     }
 }
 
+/// What would be a setup, but for the rule that is not there: format and rate alone, or less.
+fn setup_cut_short(script: &mut Script) {
+    let (format, rate) = script.random.pick(&pairs());
+    let size = script.random.pick(&[0, 1, 2, 2]);
+    script.record(0x17, &[format, rate][..size], &[]);
+}
+
 /// Flat contents that are no contents: ID present above 1, three video values, a video place used beyond the count.
 fn wrong_flat(script: &mut Script) {
     let mut flat = contents::flat(&containers::contents(&mut script.random, Default::default()));
@@ -49,20 +57,21 @@ fn wrong_flat(script: &mut Script) {
 }
 
 fn bad_record(script: &mut Script) {
-    match script.random.below(7) {
+    match script.random.below(8) {
         0 => wrong_size(script),
         1 => wrong_flat(script),
-        2 => {
-            let tag = script.random.pick(&[0x00, 0x0F, 0x17, 0x1F, 0x26, 0x30, 0xFF]);
+        2 => setup_cut_short(script),
+        3 => {
+            let tag = script.random.pick(&[0x00, 0x0F, 0x18, 0x1F, 0x26, 0x30, 0xFF]);
             let payload = script.noise(9);
             script.record(tag, &[], &payload);
         }
-        3 => {
+        4 => {
             let room = script.random.pick(&[4097, 5000, 65_535]);
             let tag = script.random.pick(&[0x13, 0x22, 0x23, 0x24]);
             script.with_room(tag, room, &[0; 8]);
         }
-        4 | 5 => instants::malformed(script),
+        5 | 6 => instants::malformed(script),
         _ => {
             let format = script.random.below(9) as u8;
             script.record(0x20, &[format, 0x10, 0x01], &[]);

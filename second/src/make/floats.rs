@@ -1,7 +1,8 @@
 // make/floats.rs: 32-bit floats of every class, and instants of them that mix to a value asked for.
 
 use super::random::Random;
-use crate::audio::mix;
+use super::sums::{sums_of_mix, SAMPLES};
+use crate::audio::{mix, weighted_sum, Rule};
 use crate::float::{above, below, bits_of_ratio, Float};
 
 const MINUS: u32 = 0x8000_0000;
@@ -108,18 +109,24 @@ pub fn any_instant(random: &mut Random, kind: usize) -> Vec<u32> {
     (0..kind).map(|_| any(random)).collect()
 }
 
-pub fn mix_of(instant: &[u32]) -> i64 {
+pub fn mix_of(instant: &[u32], rule: Rule) -> i64 {
     let samples: Vec<i64> = instant.iter().map(|&bits| sample_of(bits)).collect();
-    mix(&samples)
+    mix(&samples, rule)
+}
+
+/// The weight of each place of a kind in the sum, and what the sum is divided by.
+fn weights(kind: usize) -> (Vec<i64>, i64) {
+    let of_one = |place: usize| {
+        let samples: Vec<i64> = (0..kind).map(|other| i64::from(other == place)).collect();
+        weighted_sum(&samples)
+    };
+    ((0..kind).map(|place| of_one(place).0).collect(), of_one(0).1)
 }
 
 /// An instant that mixes to `mixed`: any classes in all places but one, which makes up for them.
-pub fn instant_of_mix(random: &mut Random, kind: usize, mixed: i64) -> Vec<u32> {
-    let (weights, denominator): (&[i64], i64) = match kind {
-        1 => (&[1], 1),
-        2 => (&[7071, 7071], 20_000),
-        _ => (&[7071, 7071, 10_000, 5000, 5000], 40_000),
-    };
+pub fn instant_of_mix(random: &mut Random, kind: usize, rule: Rule, mixed: i64) -> Vec<u32> {
+    let (weights, denominator) = weights(kind);
+    let sums = sums_of_mix(rule, denominator, mixed);
     for _ in 0..30 {
         let mut instant = any_instant(random, kind);
         if kind == 5 && random.chance(50) {
@@ -128,17 +135,17 @@ pub fn instant_of_mix(random: &mut Random, kind: usize, mixed: i64) -> Vec<u32> 
         let open = random.below(kind);
         let others = (0..kind).filter(|&place| place != open);
         let sum: i64 = others.map(|place| weights[place] * sample_of(instant[place])).sum();
-        let least = -(sum - denominator * mixed).div_euclid(weights[open]);
-        let most = (denominator * (mixed + 1) - 1 - sum).div_euclid(weights[open]);
+        let least = -(sum - sums.start()).div_euclid(weights[open]);
+        let most = (sums.end() - sum).div_euclid(weights[open]);
         let between = random.between(least, most.max(least));
         let sample = random.pick(&[least, most, between]);
-        if least <= most && (-32_768..=32_767).contains(&sample) {
+        if least <= most && SAMPLES.contains(&sample) {
             instant[open] = of_sample(random, sample);
             return instant;
         }
     }
     let whole: i64 = weights.iter().sum();
-    let alike = (denominator * mixed).div_euclid(whole).clamp(-32_768, 32_767);
+    let alike = (denominator * mixed).div_euclid(whole).clamp(*SAMPLES.start(), *SAMPLES.end());
     (0..kind).map(|_| of_sample(random, alike)).collect()
 }
 
@@ -146,7 +153,7 @@ pub fn instant_of_mix(random: &mut Random, kind: usize, mixed: i64) -> Vec<u32> 
 fn against_c(random: &mut Random, instant: &mut [u32]) {
     for (place, against) in [(1, 0), (3, 2), (4, 2)] {
         let sample = random.between(-3, 3) - sample_of(instant[against]);
-        instant[place] = of_sample(random, sample.clamp(-32_768, 32_767));
+        instant[place] = of_sample(random, sample.clamp(*SAMPLES.start(), *SAMPLES.end()));
     }
 }
 
@@ -169,9 +176,10 @@ mod tests {
     fn instants_mix_to_what_was_asked_for() {
         let mut random = Random::new("test", 2);
         for mixed in [-9000, -700, -3, -2, -1, 0, 1, 2, 3, 50, 9000] {
-            for kind in [1, 2, 5] {
-                let hit = (0..20).filter(|_| mix_of(&instant_of_mix(&mut random, kind, mixed)) == mixed).count();
-                assert!(hit >= 19, "{hit} of 20 for {mixed}, kind {kind}");
+            for (kind, rule) in [1, 2, 5].into_iter().flat_map(|kind| [(kind, Rule::Down), (kind, Rule::TowardsZero)]) {
+                let mut hits = || mix_of(&instant_of_mix(&mut random, kind, rule, mixed), rule) == mixed;
+                let hit = (0..20).filter(|_| hits()).count();
+                assert!(hit >= 19, "{hit} of 20 for {mixed}, kind {kind}, {rule:?}");
             }
         }
     }

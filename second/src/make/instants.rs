@@ -13,7 +13,7 @@ const KINDS: [usize; 3] = [1, 2, 5];
 /// The largest value a(i) that every kind can be asked for: 5.1 and stereo mix to less than mono.
 const MOST_VALUE: i64 = 23_000;
 
-fn record(script: &mut Script, fingerprint: u8, instant: &[u32]) {
+pub fn record(script: &mut Script, fingerprint: u8, instant: &[u32]) {
     let values: Vec<u8> = instant.iter().flat_map(|bits| bits.to_le_bytes()).collect();
     script.record(0x16, &[fingerprint, instant.len() as u8], &values);
 }
@@ -82,14 +82,44 @@ pub fn malformed(script: &mut Script) {
 }
 
 /// The next sample's value a(i), and how large it may be without harm to the next kept bit.
-struct Aim {
+pub struct Aim {
     value: i64,
-    most: i64,
+    pub most: i64,
+}
+
+impl Aim {
+    /// The value aimed at, or any that does no harm.
+    pub fn drawn(&self, random: &mut Random) -> i64 {
+        if self.most > self.value && random.chance(30) {
+            random.between(0, self.most.min(MOST_VALUE))
+        } else {
+            self.value
+        }
+    }
+}
+
+/// How a stretch of sound is made.
+#[derive(Clone, Copy)]
+pub struct Manner {
+    /// The next instant, from what the fingerprint's filters hold.
+    pub choose: fn(&mut Random, &Sound) -> Vec<u32>,
+    /// The samples of an instant whose value a(i) is 0.
+    pub silent: fn(&mut Random, &Sound) -> Vec<i64>,
+    /// To which the mean is lifted in stereo and 5.1, in 8,192ths.
+    pub levels: [i64; 4],
+    /// How often, out of 100, a block of whole numbers comes in place of an instant.
+    pub blocks: usize,
+}
+
+const AIMED: Manner = Manner { choose: aimed, silent: quiet, levels: [2, 3, 40, 1000], blocks: 2 };
+
+fn quiet(random: &mut Random, sound: &Sound) -> Vec<i64> {
+    vec![random.pick(&[0, -1]); usize::from(sound.mix_type)]
 }
 
 /// Without sound the difference of envelope and mean falls by `fall` at each sample, and a value adds seven times
 /// itself: what is asked for brings the difference to around 0.
-fn aim(random: &mut Random, sound: &Sound) -> Aim {
+pub fn aim(random: &mut Random, sound: &Sound) -> Aim {
     let (e, m) = (sound.envelope.last().copied().unwrap_or(0), sound.mean.last().copied().unwrap_or(0));
     let to_kept = (sound.decimator - sound.value.len() % sound.decimator) % sound.decimator;
     let fall = e / 1024 - m / 8192;
@@ -100,29 +130,29 @@ fn aim(random: &mut Random, sound: &Sound) -> Aim {
 }
 
 /// An instant that keeps envelope and mean together, by any classes of value that allow it.
-fn aimed(random: &mut Random, sound: &Sound) -> Vec<u32> {
+pub fn aimed(random: &mut Random, sound: &Sound) -> Vec<u32> {
     let kind = usize::from(sound.mix_type);
-    let Aim { value, most } = aim(random, sound);
+    let aim = aim(random, sound);
     let free = any_instant(random, kind);
-    if random.chance(50) && pseudo_absolute(mix_of(&free)) <= most {
+    if random.chance(50) && pseudo_absolute(mix_of(&free, sound.rule)) <= aim.most {
         return free;
     }
-    let value = if most > value && random.chance(30) { random.between(0, most.min(MOST_VALUE)) } else { value };
+    let value = aim.drawn(random);
     let mixed = random.pick(&[value, -value - 1]);
-    instant_of_mix(random, kind, mixed)
+    instant_of_mix(random, kind, sound.rule, mixed)
 }
 
-/// So many aimed instants, some as blocks of whole numbers, with refused ones between.
-fn stretch(script: &mut Script, k: usize, instants: usize) {
+/// So many instants, some as blocks of whole numbers, with refused ones between.
+pub fn stretch(script: &mut Script, k: usize, instants: usize, manner: Manner) {
     let mut left = instants;
     while left > 0 {
-        let in_block = if script.random.chance(2) { left.min(script.random.below(30)) } else { 0 };
+        let in_block = if script.random.chance(manner.blocks) { left.min(script.random.below(30)) } else { 0 };
         if in_block > 0 {
-            aimed_blocks(script, k, in_block);
+            blocks(script, k, in_block, manner);
         } else {
             let Script { random, desk, .. } = script;
             let Some(running) = &desk.session.0 else { return };
-            let instant = aimed(random, &running.sounds[k]);
+            let instant = (manner.choose)(random, &running.sounds[k]);
             record(script, k as u8, &instant);
         }
         left -= in_block.max(1);
@@ -132,15 +162,15 @@ fn stretch(script: &mut Script, k: usize, instants: usize) {
     }
 }
 
-/// The samples of aimed instants as whole numbers.
-fn aimed_blocks(script: &mut Script, k: usize, instants: usize) {
+/// The samples of so many instants as whole numbers.
+fn blocks(script: &mut Script, k: usize, instants: usize, manner: Manner) {
     let Script { random, desk, .. } = script;
     let Some(running) = &desk.session.0 else { return };
     let mut trial = running.sounds[k].clone();
     let mut block = Vec::new();
     for _ in 0..instants {
-        let instant = aimed(random, &trial);
-        let samples: Vec<u8> = instant.iter().flat_map(|&bits| (sample_of(bits) as i16).to_le_bytes()).collect();
+        let instant = (manner.choose)(random, &trial);
+        let samples: Vec<u8> = lent(&instant.iter().map(|&bits| sample_of(bits)).collect::<Vec<_>>());
         // A block that overfills is refused whole; what it would have held does not matter then.
         let _ = trial.take_block(&samples);
         block.extend(samples);
@@ -152,59 +182,61 @@ fn aimed_blocks(script: &mut Script, k: usize, instants: usize) {
 /// A loud sample 0, which enters no filter, and silence after it: the bits stay 0.
 fn loud_start(script: &mut Script, k: usize) {
     let Some(running) = script.running() else { return };
-    let (kind, decimator) = (usize::from(running.sounds[k].mix_type), running.rate.decimator);
+    let (kind, rule, decimator) = (usize::from(running.sounds[k].mix_type), running.rule, running.rate.decimator);
     let mixed = script.random.pick(&[20_000, -20_000, 1000, 2, -23_000]);
-    let first = instant_of_mix(&mut script.random, kind, mixed);
+    let first = instant_of_mix(&mut script.random, kind, rule, mixed);
     record(script, k as u8, &first);
     for _ in 0..decimator + script.random.below(2 * decimator) {
         let silence = script.random.pick(&[0, -1]);
-        let instant = instant_of_mix(&mut script.random, kind, silence);
+        let instant = instant_of_mix(&mut script.random, kind, rule, silence);
         record(script, k as u8, &instant);
     }
 }
 
-/// Samples of all channels alike that lift the mean to 8,192 times a level, and then silence until the envelope has
-/// come down to it: from there on both can be held together.
-fn lifting(random: &mut Random, sound: &Sound) -> Vec<i64> {
+/// The samples of instants that lift the mean to 8,192 times a level, all channels alike, and then silence until the
+/// envelope has come down to it: from there on both can be held together.
+fn lifting(random: &mut Random, sound: &Sound, manner: Manner) -> Vec<Vec<i64>> {
     // Only a high level leaves room for loud values in mono; other kinds cancel them.
-    let level = random.pick(if sound.mix_type == 1 { &[3, 40, 4000, 4000] } else { &[2, 3, 40, 1000] });
+    let level = random.pick(if sound.mix_type == 1 { &[3, 40, 4000, 4000] } else { &manner.levels });
     let loudness = random.between(20_000, 32_767);
     let mut trial = sound.clone();
-    let mut samples = Vec::new();
-    let mut enter = |sample: i64| {
-        let channels = trial.instant_size() / 2;
-        trial.take_block(&(sample as i16).to_le_bytes().repeat(channels)).expect("room in the bit store");
-        samples.push(sample);
+    let mut instants = Vec::new();
+    let mut enter = |samples: Vec<i64>| {
+        trial.take_block(&lent(&samples)).expect("room in the bit store");
+        instants.push(samples);
         (trial.envelope[trial.value.len() - 1], trial.mean[trial.value.len() - 1])
     };
-    enter(random.pick(&[0, -1]));
-    while enter(random.pick(&[loudness, -loudness])).1 < 10_000 * level {}
+    enter((manner.silent)(random, sound));
+    while enter(vec![random.pick(&[loudness, -loudness]); usize::from(sound.mix_type)]).1 < 10_000 * level {}
     loop {
-        let (envelope, mean) = enter(random.pick(&[0, -1]));
+        let (envelope, mean) = enter((manner.silent)(random, sound));
         if envelope <= mean {
-            return samples;
+            return instants;
         }
     }
 }
 
+/// Samples as a block has them.
+fn lent(samples: &[i64]) -> Vec<u8> {
+    samples.iter().flat_map(|&sample| (sample as i16).to_le_bytes()).collect()
+}
+
 /// The lifting as one block, or (seldom, since it takes more room) as instants.
-fn lift(script: &mut Script, k: usize) {
+pub fn lift(script: &mut Script, k: usize, manner: Manner) {
     let Script { random, desk, .. } = script;
     let Some(running) = &desk.session.0 else { return };
     let sound = &running.sounds[k];
-    let channels = usize::from(sound.mix_type);
     if sound.instants_that_fit() < 5500 {
         return;
     }
-    let samples = lifting(random, sound);
-    if random.chance(4) || samples.len() * 2 * channels > MOST_BLOCK {
-        for sample in samples {
-            let instant: Vec<u32> = (0..channels).map(|_| of_sample(&mut script.random, sample)).collect();
+    let instants = lifting(random, sound, manner);
+    let block: Vec<u8> = instants.iter().flat_map(|samples| lent(samples)).collect();
+    if random.chance(4) || block.len() > MOST_BLOCK {
+        for samples in instants {
+            let instant: Vec<u32> = samples.iter().map(|&sample| of_sample(&mut script.random, sample)).collect();
             record(script, k as u8, &instant);
         }
     } else {
-        let block: Vec<u8> =
-            samples.iter().flat_map(|&sample| (sample as i16).to_le_bytes().repeat(channels)).collect();
         script.record(0x12, &[k as u8], &block);
     }
 }
@@ -216,19 +248,24 @@ fn fill(script: &mut Script, k: usize) {
         loud_start(script, k);
     } else if fresh {
         let first = script.random.below(2);
-        stretch(script, k, first);
+        stretch(script, k, first, AIMED);
     }
     let unlifted = script.running().is_some_and(|running| running.sounds[k].mean.last().is_none_or(|&mean| mean < 9));
     if unlifted && script.random.chance(85) {
-        lift(script, k);
+        lift(script, k, AIMED);
     }
-    let Some(running) = script.running() else { return };
+    let wanted = wanted(script, k);
+    if wanted > 0 {
+        let extra = script.random.below(4 * script.running().map_or(1, |running| running.rate.decimator));
+        stretch(script, k, wanted + extra, AIMED);
+    }
+}
+
+/// How many further instants of a fingerprint make the bits that the container due asks for.
+pub fn wanted(script: &Script, k: usize) -> usize {
+    let Some(running) = script.running() else { return 0 };
     let missing = (8 * running.bytes_due()).saturating_sub(running.sounds[k].held_bits());
-    let decimator = running.rate.decimator;
-    if missing > 0 {
-        let extra = script.random.below(4 * decimator);
-        stretch(script, k, missing * decimator + extra);
-    }
+    missing * running.rate.decimator
 }
 
 /// One bit store filled to short of the brim by blocks, then by instants to the brim and past it.
@@ -236,8 +273,8 @@ fn over_the_brim(script: &mut Script, k: usize) {
     let Some(running) = script.running() else { return };
     let (fit, decimator) = (running.sounds[k].instants_that_fit(), running.rate.decimator);
     let by_instants = script.random.pick(&[0, 1, 2, decimator, decimator + 3]).min(fit);
-    aimed_blocks(script, k, fit - by_instants);
-    stretch(script, k, by_instants);
+    blocks(script, k, fit - by_instants, AIMED);
+    stretch(script, k, by_instants, AIMED);
     past_the_brim(script, k);
 }
 
@@ -291,7 +328,7 @@ fn by_instants_alone(script: &mut Script) {
 fn full_and_empty(script: &mut Script, kind: usize) {
     let rate = script.random.pick(&[2, 3]);
     script.setup(2, rate, &[kind as u8]);
-    lift(script, 0);
+    lift(script, 0, AIMED);
     over_the_brim(script, 0);
     let packs = script.packs + 256 / 40 + 2;
     while script.packs < packs {
@@ -310,6 +347,13 @@ fn setup(script: &mut Script, seed: u64) {
     let mut mixes = vec![first];
     mixes.extend((0..more).map(|_| script.random.pick(&[1, 2, 5])));
     script.setup(pair.0, pair.1, &mixes);
+}
+
+/// A setup refused for its rule (02, A9), and calls that tell that no session is left.
+fn refused_setup(script: &mut Script) {
+    script.setup_by_no_rule(2, 3, &[1]);
+    script.record(0x12, &[0], &[0; 2]);
+    record(script, 0, &[0]);
 }
 
 /// One frame and its container, with sound by instants before, and restarts and full bit stores now and then.
@@ -355,6 +399,8 @@ pub fn instants(random: Random, seed: u64) -> Vec<u8> {
     if script.random.chance(10) {
         malformed(&mut script);
         refused(&mut script);
+    } else if script.without_rule(30) {
+        refused_setup(&mut script);
     }
     script.feed
 }

@@ -11,9 +11,11 @@ mod lines;
 mod packets;
 mod picture;
 mod random;
+mod rules;
 mod script;
 mod sessions;
 mod sound;
+mod sums;
 
 use random::Random;
 
@@ -27,12 +29,17 @@ const fn kind(name: &'static str, make: fn(Random, u64) -> Vec<u8>, says: &'stat
     Kind { name, says, make }
 }
 
-pub const KINDS: [Kind; 15] = [
+pub const KINDS: [Kind; 16] = [
     kind("setup", sessions::setup, "setups listed and not, calls on empty sessions"),
     kind("session", sessions::session, "sessions of every format and rate: all calls, in and out of order"),
     kind("picture", sessions::picture, "sessions of every format and rate: mostly lines and packs"),
     kind("sound", sessions::sound, "sessions with much sound, full bit stores, every rate"),
     kind("instants", instants::instants, "sound in floating point: every class of value and kind, aimed bits"),
+    kind(
+        "rules",
+        rules::rules,
+        "both mixing rules in turn on the same sound, sums at the edges of rounding, aimed bits",
+    ),
     kind("long", sessions::long, "some 280 packs: the counter goes from 255 to 0, the cadence round and round"),
     kind("mixed", sessions::mixed, "a session with calls between that must not touch it"),
     kind("largest", largest::largest, "interlaced sessions and contents of 254 bytes and near it"),

@@ -1,6 +1,7 @@
 // make/random.rs: a small random source that gives the same numbers on every machine.
 
 /// SplitMix64.
+#[derive(Clone)]
 pub struct Random {
     state: u64,
 }
@@ -12,6 +13,11 @@ impl Random {
             .bytes()
             .fold(0xCBF2_9CE4_8422_2325u64, |hash, byte| (hash ^ u64::from(byte)).wrapping_mul(0x0000_0100_0000_01B3));
         Random { state: name ^ seed.wrapping_mul(0xD134_2543_DE82_EF95) }
+    }
+
+    /// A source of its own, from which may be drawn without a change in what this one gives.
+    pub fn apart(&self) -> Random {
+        Random { state: !self.state }
     }
 
     pub fn next(&mut self) -> u64 {

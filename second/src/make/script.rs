@@ -1,11 +1,13 @@
 // make/script.rs: a feed in the making, with a session of its own that tells what the next call will meet.
 
+use std::ops::Range;
+
 use super::floats;
 use super::picture::{self, Motion};
 use super::random::Random;
 use super::sound::Source;
 use crate::container::{ID_SIZE, MOST_FINGERPRINTS};
-use crate::feed::{Desk, MOST_ROOM};
+use crate::feed::{self, Desk, MOST_ROOM};
 use crate::formats::{Format, FORMATS, RATES, ROWS_PER_FIELD};
 use crate::session::Running;
 
@@ -14,6 +16,8 @@ const MOST_PAYLOAD: usize = 65_535;
 pub struct Script {
     pub feed: Vec<u8>,
     pub random: Random,
+    /// For the rules of setups alone, so that all else of a feed is what it was without them (02, A9).
+    rules: Random,
     /// Packs that were not refused.
     pub packs: usize,
     pub desk: Desk,
@@ -31,8 +35,9 @@ pub fn pairs() -> Vec<(u8, u8)> {
 
 impl Script {
     pub fn new(mut random: Random) -> Script {
+        let rules = random.apart();
         let motion = Motion::lively(&mut random, 50);
-        Script { feed: Vec::new(), random, packs: 0, desk: Desk::default(), sources: Vec::new(), motion }
+        Script { feed: Vec::new(), random, rules, packs: 0, desk: Desk::default(), sources: Vec::new(), motion }
     }
 
     pub fn running(&self) -> Option<&Running> {
@@ -41,17 +46,13 @@ impl Script {
 
     /// Adds a record and makes its call on the script's own session.
     pub fn record(&mut self, tag: u8, fixed: &[u8], rest: &[u8]) {
-        let size = fixed.len() + rest.len();
-        assert!(size <= MOST_PAYLOAD);
         let payload = [fixed, rest].concat();
-        self.feed.push(tag);
-        self.feed.extend((size as u16).to_be_bytes());
-        self.feed.extend(&payload);
+        self.feed.extend(feed::record(tag, &payload));
         if (0x10..0x20).contains(&tag) {
             let told = self.desk.call(tag, &payload);
             self.packs += usize::from(told.is_ok_and(|line| line.starts_with("pack 0")));
         }
-        if tag == 0x10 || tag == 0x15 {
+        if [0x10, 0x15, 0x17].contains(&tag) {
             self.sources = (0..MOST_FINGERPRINTS).map(|_| Source::new(&mut self.random)).collect();
         }
     }
@@ -60,8 +61,46 @@ impl Script {
         self.record(tag, &(room as u16).to_be_bytes(), rest);
     }
 
+    /// A setup of either rule, now and then after one that is refused for its rule.
     pub fn setup(&mut self, format: u8, rate: u8, mix_types: &[u8]) {
-        self.record(0x10, &[format, rate], mix_types);
+        if self.without_rule(12) {
+            let before = self.random.clone();
+            self.setup_by_no_rule(format, rate, mix_types);
+            let calls: [(u8, &[u8]); 3] = [(0x12, &[0]), (0x13, &[0, 0]), (0x16, &[0, 1, 0, 0, 0, 0])];
+            let (tag, payload) = self.rules.pick(&calls);
+            self.record(tag, payload, &[]);
+            self.random = before;
+        }
+        let rule = self.rules.pick(&[1, 2]);
+        self.setup_by_rule(format, rate, rule, mix_types);
+    }
+
+    /// Rule 1 comes by either record (FEED, A9: "10h stays: rule 1").
+    pub fn setup_by_rule(&mut self, format: u8, rate: u8, rule: u8, mix_types: &[u8]) {
+        if rule == 1 && self.rules.chance(50) {
+            self.record(0x10, &[format, rate], mix_types);
+        } else {
+            self.record(0x17, &[format, rate, rule], mix_types);
+        }
+    }
+
+    /// A setup that the rule's number alone may have refused.
+    pub fn setup_by_no_rule(&mut self, format: u8, rate: u8, mix_types: &[u8]) {
+        let any = 3 + self.rules.below(253) as u8;
+        let none = self.rules.pick(&[0, 0, 3, 3, 255, 255, 4, 12, 0x11, 0x12, 0x81, 0x82, any]);
+        self.setup_by_rule(format, rate, none, mix_types);
+    }
+
+    /// Whether a setup is to be refused for its rule.
+    pub fn without_rule(&mut self, per_cent: usize) -> bool {
+        self.rules.chance(per_cent)
+    }
+
+    /// The records between two places of the feed once more.
+    pub fn again(&mut self, records: Range<usize>) {
+        for (tag, payload) in feed::records(&self.feed[records]) {
+            self.record(tag, &payload, &[]);
+        }
     }
 
     pub fn line(&mut self, number: u16, line: &[u8]) {

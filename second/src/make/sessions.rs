@@ -22,11 +22,13 @@ fn mix_types(random: &mut Random) -> Vec<u8> {
     (0..count).map(|_| if mono_mostly && random.chance(90) { 1 } else { random.pick(&[1, 2, 5]) }).collect()
 }
 
-/// A setup that is refused, wrong in one way.
+/// A setup that is refused, wrong in one way; now and then for its rule, by itself or beside that.
 fn refused_setup(script: &mut Script) {
+    let (without_rule, alone) = (script.without_rule(25), script.without_rule(80));
     let random = &mut script.random;
     let mut mixes = mix_types(random);
     let (mut format, mut rate) = random.pick(&pairs());
+    let right = (format, rate, mixes.clone());
     match random.below(6) {
         0 => format = random.pick(&[8, 9, 255]),
         1 => rate = random.pick(&[0, 1, 12, 13, 14, 15, 0x52, 255]),
@@ -38,11 +40,16 @@ fn refused_setup(script: &mut Script) {
             mixes[place] = random.pick(&[0, 3, 4, 6, 7, 9, 0x12, 255]);
         }
     }
-    script.setup(format, rate, &mixes);
+    if without_rule {
+        let (format, rate, mixes) = if alone { right } else { (format, rate, mixes) };
+        script.setup_by_no_rule(format, rate, &mixes);
+    } else {
+        script.setup(format, rate, &mixes);
+    }
 }
 
 /// Calls on an empty session, some of which other numbers would fit too.
-fn empty_session_calls(script: &mut Script) {
+pub fn empty_session_calls(script: &mut Script) {
     for _ in 0..1 + script.random.below(5) {
         match script.random.below(6) {
             0 => script.record(0x14, &[], &[]),
@@ -290,6 +297,15 @@ fn run_session(random: Random, pair: (u8, u8), turns: &Turns, packs: usize) -> V
     script.feed
 }
 
+/// Every rule number (02, A9), each with a call that tells whether there is a session.
+fn every_rule(script: &mut Script) {
+    let (format, rate) = script.random.pick(&pairs());
+    for rule in 0..=255 {
+        script.record(0x17, &[format, rate, rule], &[2]);
+        script.record(0x12, &[0], &[]);
+    }
+}
+
 /// Every format and rate code, listed or not, with mix types listed or not; each followed by a few small calls.
 pub fn setup(random: Random, _seed: u64) -> Vec<u8> {
     let mut script = Script::new(random);
@@ -304,6 +320,7 @@ pub fn setup(random: Random, _seed: u64) -> Vec<u8> {
             small_call(&mut script);
         }
     }
+    every_rule(&mut script);
     script.feed
 }
 
