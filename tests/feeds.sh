@@ -61,6 +61,8 @@ try --format 3 --frames 4 --prints 32
 # Fingerprints of all three mix types, at a rate with D = 50 and one with D = 52.
 one_sound --format 2 --rate 9 --frames 20 --prints 5
 one_sound --format 2 --rate 10 --frames 20 --prints 5
+# By the second mixing rule (02, A9).
+one_sound --format 2 --rate 9 --frames 20 --prints 5 --rule 2
 # The lines to which `make run` holds card before it is proved.
 tools/sample-feed --frames 3 | "$second" | cmp - examples/three-frames.txt
 # A program that prints the right lines and then fails is different to tools/compare.

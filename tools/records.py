@@ -13,6 +13,11 @@ def record(tag, *parts):
     return bytes([tag]) + two(len(payload)) + payload
 
 
+def setup(format, rate, mixes, rule=1):
+    """Setup by a mixing rule: 10h has no place for one, and is by rule 1."""
+    return record(0x10, [format, rate], mixes) if rule == 1 else record(0x17, [format, rate, rule], mixes)
+
+
 def split(feed):
     """The records of a whole feed, each with its tag and length."""
     records, at = [], 0

@@ -4,6 +4,7 @@
   FORMATS[number]    a Format; format_named("720p") finds one by name
   RATES[code]        a Rate; rate_named("29.97") finds one by name
   MIXES[type]        a Mix
+  RULES[number]      how a mixing rule rounds
   REFUSALS[number]   what a refusal means
   NUMBERS[call]      the numbers that a call can answer, in the papers' order
 
@@ -64,9 +65,12 @@ RATES = {
 # The layout is ffmpeg's name of the channels; its 5.0 comes as L, R, C, Ls, Rs.
 MIXES = {1: Mix(1, "mono", 1, "mono"), 2: Mix(2, "stereo", 2, "stereo"), 5: Mix(5, "5.1", 5, "5.0")}
 
-# 01, "What a caller is told", as 02's A3 (14) and A7 leave it.
+# 01, Audio; 02, A9.
+RULES = {1: "down, towards minus infinity", 2: "towards zero"}
+
+# 01, "What a caller is told", as 02's A3 (14), A7 and A9 (1) leave it.
 REFUSALS = {
-    1: "format, rate pairing, fingerprint count or mix type not listed, or a session that is not set up",
+    1: "format, rate pairing, mixing rule, fingerprint count or mix type not listed, or a session that is not set up",
     2: "line length not 2 x width",
     3: "line number not 1 to the format's lines",
     4: "monitored line, but not the one expected",
