@@ -6,8 +6,8 @@ use std::time::Instant;
 mod floats;
 
 extern "C" {
-    fn bench_audio(mix: u8, d: u8, block: *const u8, len: usize, rounds: usize) -> u64;
-    fn bench_floats(mix: u8, d: u8, values: *const f32, len: usize, rounds: usize) -> u64;
+    fn bench_audio(rule: u8, mix: u8, d: u8, block: *const u8, len: usize, rounds: usize) -> u64;
+    fn bench_floats(rule: u8, mix: u8, d: u8, values: *const f32, len: usize, rounds: usize) -> u64;
 }
 
 const BLOCK: usize = 1920;
@@ -51,27 +51,27 @@ impl Plain {
         }
     }
 
-    fn heard(&mut self, mix: u8, block: &[u8]) {
+    fn heard(&mut self, rule: u8, mix: u8, block: &[u8]) {
         match mix {
             1 => block.chunks_exact(2).for_each(|b| self.step(sample(b))),
-            2 => block.chunks_exact(4).for_each(|b| self.step(stereo(sample(b), sample(&b[2..])))),
-            _ => block.chunks_exact(10).for_each(|b| self.step(five(sample(b), sample(&b[2..]), sample(&b[4..]), sample(&b[6..]), sample(&b[8..])))),
+            2 => block.chunks_exact(4).for_each(|b| self.step(stereo(rule, sample(b), sample(&b[2..])))),
+            _ => block.chunks_exact(10).for_each(|b| self.step(five(rule, sample(b), sample(&b[2..]), sample(&b[4..]), sample(&b[6..]), sample(&b[8..])))),
         }
     }
 
-    fn instant(&mut self, mix: u8, i: Floats) -> Result<(), u8> {
+    fn instant(&mut self, rule: u8, mix: u8, i: Floats) -> Result<(), u8> {
         if i.has_nan() || i.kind() != mix {
             return Err(14);
         }
         if self.wait == 0 && self.held == 256 {
             return Err(9);
         }
-        self.step(i.mixed());
+        self.step(i.mixed(rule));
         Ok(())
     }
 
-    fn instants(&mut self, mix: u8, values: &[f32]) {
-        Floats::each(mix, values, |i| self.instant(mix, i).unwrap());
+    fn instants(&mut self, rule: u8, mix: u8, values: &[f32]) {
+        Floats::each(mix, values, |i| self.instant(rule, mix, i).unwrap());
     }
 
     fn take(&mut self, n: usize) -> [u8; 5] {
@@ -102,13 +102,13 @@ fn turns(rounds: usize, hear: impl Fn(&mut Plain)) -> u64 {
 }
 
 #[inline(never)]
-fn plain(mix: u8, block: &[u8], rounds: usize) -> u64 {
-    turns(rounds, |f| f.heard(mix, block))
+fn plain(rule: u8, mix: u8, block: &[u8], rounds: usize) -> u64 {
+    turns(rounds, |f| f.heard(rule, mix, block))
 }
 
 #[inline(never)]
-fn plain_floats(mix: u8, values: &[f32], rounds: usize) -> u64 {
-    turns(rounds, |f| f.instants(mix, values))
+fn plain_floats(rule: u8, mix: u8, values: &[f32], rounds: usize) -> u64 {
+    turns(rounds, |f| f.instants(rule, mix, values))
 }
 
 fn noise(n: usize) -> impl Iterator<Item = u32> {
@@ -150,18 +150,17 @@ fn head(first: &str) {
     println!("|--|--|--|--|--|");
 }
 
-const MIXES: [(u8, &str); 3] = [(1, "mono"), (2, "stereo"), (5, "5.1")];
-
 fn main() {
     head("blocks");
-    for (mix, name) in MIXES {
+    for (rule, mix, name) in floats::MIXES {
         let block = samples(mix as usize * BLOCK);
-        row(name, || unsafe { bench_audio(mix, D, block.as_ptr(), block.len(), ROUNDS) }, || plain(mix, &block, ROUNDS));
+        row(name, || unsafe { bench_audio(rule, mix, D, block.as_ptr(), block.len(), ROUNDS) }, || plain(rule, mix, &block, ROUNDS));
     }
     println!();
     head("instants in floating point");
-    for (mix, name) in MIXES {
+    for (rule, mix, name) in floats::MIXES {
         let values = floats::values(noise(mix as usize * BLOCK));
-        row(name, || unsafe { bench_floats(mix, D, values.as_ptr(), values.len(), ROUNDS) }, || plain_floats(mix, &values, ROUNDS));
+        let rattle = || unsafe { bench_floats(rule, mix, D, values.as_ptr(), values.len(), ROUNDS) };
+        row(name, rattle, || plain_floats(rule, mix, &values, ROUNDS));
     }
 }

@@ -1,10 +1,23 @@
-// The mixes, and an instant in floating point, in plain Rust: for bench/audio.rs and bench/session.rs.
-pub fn stereo(l: i32, r: i32) -> i32 {
-    (7071 * (l + r)).div_euclid(20000)
+// The mixes by both rules, and an instant in floating point, in plain Rust: for bench/audio.rs and bench/session.rs.
+
+// Rule and mix type of what is measured. Mono has no quotient, so one rule is enough for it.
+pub const MIXES: [(u8, u8, &str); 5] =
+    [(1, 1, "mono"), (1, 2, "stereo, rule 1"), (2, 2, "stereo, rule 2"), (1, 5, "5.1, rule 1"), (2, 5, "5.1, rule 2")];
+
+// Rust's own division rounds towards zero, as rule 2 does (02, A9).
+#[inline(always)]
+fn quotient(rule: u8, sum: i32, d: i32) -> i32 {
+    if rule == 2 { sum / d } else { sum.div_euclid(d) }
 }
 
-pub fn five(l: i32, r: i32, c: i32, ls: i32, rs: i32) -> i32 {
-    (7071 * (l + r) + 10000 * c + 5000 * (ls + rs)).div_euclid(40000)
+#[inline(always)]
+pub fn stereo(rule: u8, l: i32, r: i32) -> i32 {
+    quotient(rule, 7071 * (l + r), 20000)
+}
+
+#[inline(always)]
+pub fn five(rule: u8, l: i32, r: i32, c: i32, ls: i32, rs: i32) -> i32 {
+    quotient(rule, 7071 * (l + r) + 10000 * c + 5000 * (ls + rs), 40000)
 }
 
 // An instant in floating point, as document 02, A3, has it.
@@ -36,11 +49,11 @@ impl Floats {
         }
     }
 
-    pub fn mixed(self) -> i32 {
+    pub fn mixed(self, rule: u8) -> i32 {
         match self {
             Floats::Mono(x) => sample_of(x),
-            Floats::Stereo(l, r) => stereo(sample_of(l), sample_of(r)),
-            Floats::Five { l, r, c, ls, rs } => five(sample_of(l), sample_of(r), sample_of(c), sample_of(ls), sample_of(rs)),
+            Floats::Stereo(l, r) => stereo(rule, sample_of(l), sample_of(r)),
+            Floats::Five { l, r, c, ls, rs } => five(rule, sample_of(l), sample_of(r), sample_of(c), sample_of(ls), sample_of(rs)),
         }
     }
 

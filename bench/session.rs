@@ -1,4 +1,4 @@
-// The session's calls: the static library of crates/bench_session against a plain Rust session behind a `&mut`, written from documents 01 and 02 (A3).
+// The session's calls: the static library of crates/bench_session against a plain Rust session behind a `&mut`, written from documents 01 and 02 (A3, A9).
 use floats::{five, stereo, Floats};
 use std::hint::black_box;
 use std::time::Instant;
@@ -123,11 +123,11 @@ impl Print {
         }
     }
 
-    fn hear(&mut self, d: u8, block: &[u8]) {
+    fn hear(&mut self, rule: u8, d: u8, block: &[u8]) {
         match self.mix {
             1 => block.chunks_exact(2).for_each(|b| self.step(d, sample(b))),
-            2 => block.chunks_exact(4).for_each(|b| self.step(d, stereo(sample(b), sample(&b[2..])))),
-            _ => block.chunks_exact(10).for_each(|b| self.step(d, five(sample(b), sample(&b[2..]), sample(&b[4..]), sample(&b[6..]), sample(&b[8..])))),
+            2 => block.chunks_exact(4).for_each(|b| self.step(d, stereo(rule, sample(b), sample(&b[2..])))),
+            _ => block.chunks_exact(10).for_each(|b| self.step(d, five(rule, sample(b), sample(&b[2..]), sample(&b[4..]), sample(&b[6..]), sample(&b[8..])))),
         }
     }
 
@@ -141,6 +141,7 @@ impl Print {
 struct Session {
     format: usize,
     rate: u8,
+    rule: u8,
     prints: Vec<Print>,
     older: [u8; 960],
     newer: [u8; 960],
@@ -164,11 +165,12 @@ enum Told {
 }
 
 impl Session {
-    // Setup, for a format, a rate and mix types that 01 lists.
-    fn new(format: usize, rate: u8, mixes: &[u8]) -> Session {
+    // Setup, for a format, a rate, a mixing rule and mix types that the papers list.
+    fn new(format: usize, rate: u8, rule: u8, mixes: &[u8]) -> Session {
         Session {
             format,
             rate,
+            rule,
             prints: mixes.iter().map(|&mix| Print::new(mix)).collect(),
             older: [0; 960],
             newer: [0; 960],
@@ -251,7 +253,7 @@ impl Session {
         if p.held + p.new_bits(block.len() / size, d) > 256 {
             return Err(9);
         }
-        p.hear(d, block);
+        p.hear(self.rule, d, block);
         Ok(())
     }
 
@@ -265,7 +267,7 @@ impl Session {
         if p.held + p.new_bits(1, d) > 256 {
             return Err(9);
         }
-        p.step(d, i.mixed());
+        p.step(d, i.mixed(self.rule));
         Ok(())
     }
 
@@ -339,6 +341,7 @@ struct Load {
 }
 
 struct Lent {
+    rule: u8,
     mix: u8,
     even: Vec<u8>,
     odd: Vec<u8>,
@@ -347,6 +350,7 @@ struct Lent {
 
 // Frames of 32 monitored lines in which fingerprints of one mix type hear the first of these instants in turn.
 struct Floating {
+    rule: u8,
     mixes: Vec<u8>,
     line: Vec<u8>,
     values: Vec<f32>,
@@ -354,14 +358,14 @@ struct Floating {
 
 extern "C" {
     fn bench_session(
-        mix: u8, rounds: usize, extra: usize, blocks: usize, even: *const u8, even_size: usize, odd: *const u8, odd_size: usize, block: *const u8,
+        rule: u8, mix: u8, rounds: usize, extra: usize, blocks: usize, even: *const u8, even_size: usize, odd: *const u8, odd_size: usize, block: *const u8,
         block_size: usize,
     ) -> u64;
     fn bench_pack(
         mix: u8, rounds: usize, blocks: usize, even: *const u8, even_size: usize, odd: *const u8, odd_size: usize, block: *const u8, block_size: usize,
     ) -> u64;
     fn bench_instants(
-        mixes: *const u8, count: usize, mix: u8, rounds: usize, line: *const u8, line_size: usize, values: *const f32, values_size: usize,
+        rule: u8, mixes: *const u8, count: usize, mix: u8, rounds: usize, line: *const u8, line_size: usize, values: *const f32, values_size: usize,
     ) -> u64;
 }
 
@@ -372,7 +376,7 @@ fn rattle(lent: &Lent, load: Load) -> u64 {
     let (even, odd, block) = (&lent.even, &lent.odd, &lent.block);
     unsafe {
         bench_session(
-            lent.mix, load.rounds, load.extra, load.blocks, even.as_ptr(), even.len(), odd.as_ptr(), odd.len(), block.as_ptr(), block.len(),
+            lent.rule, lent.mix, load.rounds, load.extra, load.blocks, even.as_ptr(), even.len(), odd.as_ptr(), odd.len(), block.as_ptr(), block.len(),
         )
     }
 }
@@ -384,7 +388,7 @@ fn rattle_packs(lent: &Lent, load: Load) -> u64 {
 
 // What Pack changes is put back after each, so that the next finds the session as it was.
 fn rust_packs(lent: &Lent, load: Load) -> u64 {
-    let mut s = Session::new(black_box(3), black_box(5), &[lent.mix; 2]);
+    let mut s = Session::new(black_box(3), black_box(5), black_box(lent.rule), &[lent.mix; 2]);
     let mut out = [0u8; 32];
     filled(&mut s, &lent.even, lent, load);
     s.pack(&[], &mut out).unwrap();
@@ -430,7 +434,7 @@ fn filled(s: &mut Session, line: &[u8], lent: &Lent, load: Load) {
 
 // Panics where a call is refused: none of those measured is.
 fn rust(lent: &Lent, load: Load) -> u64 {
-    let mut s = Session::new(black_box(3), black_box(5), &[lent.mix; 2]);
+    let mut s = Session::new(black_box(3), black_box(5), black_box(lent.rule), &[lent.mix; 2]);
     let mut total = 0u64;
     for i in 0..load.rounds {
         let line = if i % 2 == 0 { &lent.even } else { &lent.odd };
@@ -446,13 +450,13 @@ fn rust(lent: &Lent, load: Load) -> u64 {
 fn rattle_instants(lent: &Floating, (rounds, instants): (usize, usize)) -> u64 {
     let (mixes, line) = (&lent.mixes, &lent.line);
     let values = &lent.values[..instants * mixes.len() * mixes[0] as usize];
-    unsafe { bench_instants(mixes.as_ptr(), mixes.len(), mixes[0], rounds, line.as_ptr(), line.len(), values.as_ptr(), values.len()) }
+    unsafe { bench_instants(lent.rule, mixes.as_ptr(), mixes.len(), mixes[0], rounds, line.as_ptr(), line.len(), values.as_ptr(), values.len()) }
 }
 
 fn rust_instants(lent: &Floating, (rounds, instants): (usize, usize)) -> u64 {
     let (mix, count) = (lent.mixes[0], lent.mixes.len());
     let values = &lent.values[..instants * count * mix as usize];
-    let mut s = Session::new(black_box(3), black_box(5), &lent.mixes);
+    let mut s = Session::new(black_box(3), black_box(5), black_box(lent.rule), &lent.mixes);
     let mut total = 0u64;
     for _ in 0..rounds {
         both_fields(&mut s, &lent.line);
@@ -498,7 +502,8 @@ fn main() {
         x ^= x << 5;
         x
     };
-    let mut lent = |mix: u8| Lent {
+    let mut lent = |rule: u8, mix: u8| Lent {
+        rule,
         mix,
         even: (0..3840).map(|_| random() as u8).collect(),
         odd: (0..3840).map(|_| random() as u8).collect(),
@@ -510,10 +515,10 @@ fn main() {
     let load = |rounds, extra, blocks| Load { rounds, extra, blocks };
     let calls: Programs<Lent, Load> = [rattle, rust];
     let packs: Programs<Lent, Load> = [rattle_packs, rust_packs];
-    let two = lent(2);
+    let two = lent(1, 2);
     row("Line, not monitored", between(RUNS, calls, &two, load(1, 0, 0), load(1, 1000, 0), 1000));
-    for (mix, name) in [(1, "mono"), (2, "stereo"), (5, "5.1")] {
-        let lent = lent(mix);
+    for (rule, mix, name) in floats::MIXES {
+        let lent = lent(rule, mix);
         let long = load(600, 1, 1);
         assert_eq!(rattle(&lent, long), rust(&lent, long), "the two programs differ where the counter has gone round");
         // two blocks a frame have room for five frames: each is accepted, and each frame has audio with one block as with two
@@ -532,9 +537,9 @@ fn main() {
     println!("| an instant in floating point | Rattle, ns | Rust, ns | ratio | all fingerprints at 48 kHz, part of a core: Rattle | Rust |");
     println!("|--|--|--|--|--|--|");
     for count in [1, 2, 32] {
-        for (mix, name) in [(1, "mono"), (2, "stereo"), (5, "5.1")] {
+        for (rule, mix, name) in floats::MIXES {
             let values = floats::values((0..2 * INSTANTS * count * mix as usize).map(|_| random()));
-            instant_row(name, &Floating { mixes: vec![mix; count], line: two.even.clone(), values });
+            instant_row(name, &Floating { rule, mixes: vec![mix; count], line: two.even.clone(), values });
         }
     }
 }
