@@ -41,7 +41,8 @@ floor-is (negsuc n) d h =
     let s : subℕ (0 + r) (d * suc (n / d) + 0) ≡ negsuc n = sub-neg (0 + r) (d * suc (n / d) + 0) n (omega arith) in
     (r, omega arith, sym (ap₂ _+ℤ_ (negated (d * suc (n / d))) (sym (sub-pos r 0 r (omega arith))) ∙ (sub-add 0 (d * suc (n / d)) r 0 ∙ s)))
 
--- rounding towards zero (02, A9): the size of z is d times the quotient's, and a remainder of less than d; and the quotient of -z is that of z, negated
+-- rounding towards zero (02, A9): the size of z is d times the quotient's, and a remainder of less than d; the quotient of -z is that of z, negated; and what is not
+-- negative has the floor for its quotient (`Rounding.rounds-alike`)
 pub towards-zero-is : (z : ℤ) (d : ℕ) → 0 < d → (r : ℕ) × (r < d) × (natAbs z ≡ d * natAbs (towardsZero z d) + r)
 unfolding towardsZero
 towards-zero-is (pos n) d h = (n % d, mod-lt n h, sym (div-add-mod n d))
@@ -57,7 +58,7 @@ towards-zero-odd (pos zero) d = rw (zero-div d) refl
 towards-zero-odd (pos (suc n)) d = refl
 towards-zero-odd (negsuc n) d = sym (negℤ-negℤ (pos (suc n / d)))
 
--- ---- The two rules beside each other. What is not negative is mixed alike by any rule: `Rounding.rounds-alike`
+-- ---- The two rules beside each other, where they can part: below zero
 
 -- a negative quotient that is whole, or not: the same mix, or that of rule 2 one higher
 pub whole-alike : (n d : ℕ) → 0 < d → suc n % d ≡ 0 → quotient 2 (negsuc n) d ≡ quotient 1 (negsuc n) d
