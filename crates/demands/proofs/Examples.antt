@@ -112,9 +112,16 @@ pub packing-numbers : (bytes : Setup → List ℕ) → RightNumbers (packing byt
 unfolding packing
 packing-numbers bytes u cs c = bytes-number (bytes u) c (paper u (transcript (packing bytes) u cs) c)
 
+-- it says the same to the same calls, whichever rule was set up
+same-transcript : (u : Setup) (cs : List Call) → transcript unruled (byRule 2 u) cs ≡ transcript unruled (byRule 1 u) cs
+unfolding transcript unruled byRule ruleListed
+same-transcript u [] = refl
+same-transcript u (c ∷ cs) =
+    ap (λ (es : List Event). record { call = c; answer = paper (byRule 1 u) es c } ∷ es) (same-transcript u cs)
+
 pub unruled-ignores : IgnoresRule unruled
 unfolding unruled byRule ruleListed
-unruled-ignores u es c = refl
+unruled-ignores u cs c = ap (λ (es : List Event). paper (byRule 1 u) es c) (same-transcript u cs)
 
 pub forgetting-forgets : Forgets forgetting
 unfolding forgetting

@@ -22,7 +22,7 @@ use Rattle.container.specs.declared.Contents.{Contents}
 use Rattle.container.specs.Bytes.{idBytes, videoBytes, printBytes, runBytes, audioBytes, partBytes, flagByte, frontBytes, encode}
 use Rattle.session.specs.Fingerprints.{allListed, withBlanks}
 use Rattle.session.specs.Session.{ruleListed, setupNumber}
-use Rattle.demands.specs.Calls.{Setup, Call, sound, pack, Answer, Event}
+use Rattle.demands.specs.Calls.{Setup, Call, sound, pack, Answer}
 use Rattle.demands.specs.Paper.{bytesDue, bitsPacked, everyHolds, printsSaid, accepted, Program, transcript}
 use Rattle.demands.specs.Demands.{Demand2}
 use Rattle.demands.specs.Rules.{byRule}
@@ -127,19 +127,10 @@ byte-00 : fromBits (bitsFrom 52 (heard 0) 0) 8 ≡ 0x00
 unfolding fromBits bitsFrom bitAt upTo bitOf filtered filterNext heard
 byte-00 = refl
 
--- one that ignores the rule says the same to the same calls, whichever was set up
-same-transcript : (p : Program) → IgnoresRule p → (u : Setup) (cs : List Call) → transcript p (byRule 2 u) cs ≡ transcript p (byRule 1 u) cs
-unfolding transcript
-same-transcript p i u [] = refl
-same-transcript p i u (c ∷ cs) =
-    let t = same-transcript p i u cs in
-    ap₂ (λ (a : Answer) (es : List Event). record { call = c; answer = a } ∷ es) (ap (λ (es : List Event). p (byRule 2 u) es c) t ∙ i u (transcript p (byRule 1 u) cs) c) t
-
 pub ignores : (p : Program) → IgnoresRule p → Demand2 p → ⊥
 unfolding byRule
 ignores p i d =
     let u = hd 1 10 (2 ∷ []) in
-    let same = ap (λ (es : List Event). p (byRule 2 u) es (pack [] room)) (same-transcript p i u run) ∙ i u (transcript p (byRule 1 u) run) (pack [] room) in
     let z : _≡_ {A = ℕ} 0x00 0xFE =
-    sym (byte-is 2 0 by-2 accepted-2 p d ∙ byte-00) ∙ (ap (λ (a : Answer). getD (a .out) 7 0) same ∙ (byte-is 1 1 by-1 accepted-1 p d ∙ byte-FE)) in
+    sym (byte-is 2 0 by-2 accepted-2 p d ∙ byte-00) ∙ (ap (λ (a : Answer). getD (a .out) 7 0) (i u run (pack [] room)) ∙ (byte-is 1 1 by-1 accepted-1 p d ∙ byte-FE)) in
     omega arith

@@ -76,10 +76,10 @@ SpeaksAlways xs p = Throughout p (λ u es. (id out : List ℕ) → Bytes id → 
 abbrev pub PacksAlways : (Setup → List ℕ) → Program → Type 0
 PacksAlways bytes p = Throughout p (λ u es. (id out : List ℕ) → p u es (pack id out) .number ≡ 0 → bytesIn (p u es (pack id out)) ≡ bytes u)
 
--- ---- one that mixes by one rule, whatever was set up (02, A9): by rule 2 it answers as by rule 1
+-- ---- one that mixes by one rule, whatever was set up (02, A9): set up by rule 2 it answers any calls as set up by rule 1
 
 abbrev pub IgnoresRule : Program → Type 0
-IgnoresRule p = (u : Setup) (es : List Event) (c : Call) → p (byRule 2 u) es c ≡ p (byRule 1 u) es c
+IgnoresRule p = (u : Setup) (cs : List Call) (c : Call) → p (byRule 2 u) (transcript p (byRule 2 u) cs) c ≡ p (byRule 1 u) (transcript p (byRule 1 u) cs) c
 
 -- ---- "one that hands the session back untouched": every call is answered as the first after setup
 
