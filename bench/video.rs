@@ -1,4 +1,5 @@
-// Line sampling and the call Line: the crates' code beside a plain Rust program and one specialised by hand.
+// Line sampling by the host's own call, beside a plain Rust program, one specialised by hand and the least that any program can do; and the call Line.
+#![allow(unexpected_cfgs)]
 use std::hint::black_box;
 use std::time::Instant;
 
@@ -73,13 +74,54 @@ fn special(format: u8, line: &[u8], out: &mut [u8]) -> u8 {
     0
 }
 
+// Floor: each pixel's taps are loaded and added up as they are, with no test, no shift, no mean and no byte stored.
+fn sum_of<const N: usize>(line: &[u8], first: usize, step: usize) -> u32 {
+    let mut sum = 0;
+    for k in 0..60 {
+        for i in 0..N {
+            sum += unsafe { line.as_ptr().add(2 * (first + step * k + i)).cast::<u16>().read_unaligned() } as u32;
+        }
+    }
+    sum
+}
+
+#[inline(never)]
+fn floor(format: u8, line: &[u8], _out: &mut [u8]) -> u8 {
+    let Some(f) = FORMATS.get(format as usize) else { return 1 };
+    let first = f.2 - f.7;
+    black_box(match f.7 + 1 + f.8 {
+        1 => sum_of::<1>(line, first, f.3),
+        2 => sum_of::<2>(line, first, f.3),
+        3 => sum_of::<3>(line, first, f.3),
+        _ => sum_of::<6>(line, first, f.3),
+    });
+    0
+}
+
+type SampleLine = unsafe extern "C" fn(u8, *const u8, usize, *mut u8, usize, *mut usize) -> u8;
+
 extern "C" {
-    fn bench_sample(format: u8, line: *const u8, n: usize, out: *mut u8, m: usize) -> u8;
+    fn lipsync_sample_line(format: u8, line: *const u8, n: usize, out: *mut u8, m: usize, written: *mut usize) -> u8;
+    #[cfg(before)]
+    fn before_sample_line(format: u8, line: *const u8, n: usize, out: *mut u8, m: usize, written: *mut usize) -> u8;
     fn bench_lines(format: u8, numbers: *const usize, k: usize, lines: *const u8, n: usize) -> u32;
 }
 
-fn rattle(format: u8, line: &[u8], out: &mut [u8]) -> u8 {
-    unsafe { bench_sample(format, line.as_ptr(), line.len(), out.as_mut_ptr(), out.len()) }
+fn called(call: SampleLine, format: u8, line: &[u8], out: &mut [u8]) -> u8 {
+    let mut written = 1;
+    let number = unsafe { call(format, line.as_ptr(), line.len(), out.as_mut_ptr(), out.len(), &mut written) };
+    assert!(written == if number == 0 { 60 } else { 0 });
+    number
+}
+
+fn host(format: u8, line: &[u8], out: &mut [u8]) -> u8 {
+    called(lipsync_sample_line, format, line, out)
+}
+
+// The same call of an earlier commit: bench/run --before.
+#[cfg(before)]
+fn before(format: u8, line: &[u8], out: &mut [u8]) -> u8 {
+    called(before_sample_line, format, line, out)
 }
 
 // The call Line in Rust, on a picture behind a `&mut`, with the specialised sampling.
@@ -158,54 +200,88 @@ const RUNS: usize = 101;
 const FIELDS: usize = 1000;
 
 // ns for the 16 lines of a field
-fn field_time(f: fn(u8, &[u8], &mut [u8]) -> u8, format: u8, lines: &[Vec<u8>], out: &mut [u8]) -> f64 {
+fn field_time(program: Program, format: u8, lines: &[Vec<u8>], out: &mut [u8]) -> f64 {
     let began = Instant::now();
     for _ in 0..FIELDS {
         for (i, line) in lines.iter().enumerate() {
-            black_box(f(black_box(format), black_box(line), &mut out[60 * i..60 * i + 60]));
+            black_box(program(black_box(format), black_box(line), &mut out[60 * i..60 * i + 60]));
         }
     }
     began.elapsed().as_secs_f64() * 1e9 / FIELDS as f64
 }
 
-fn main() {
-    let mut x = 0x12345u32;
-    let mut byte = || {
-        x ^= x << 13;
-        x ^= x >> 17;
-        x ^= x << 5;
-        x as u8
-    };
-    println!("ns for 16 lines, the least of {RUNS} runs of {FIELDS} fields; and ns for one call of Line, the 16th lines with their comparison among them");
-    println!("|Format|Rattle|plain Rust|specialised Rust|to plain|to specialised|Line, Rattle|Line, Rust|");
-    println!("|--|--|--|--|--|--|--|--|");
-    for (format, f) in FORMATS.iter().enumerate() {
-        let code = format as u8;
-        let lines: Vec<Vec<u8>> = (0..16).map(|_| (0..2 * f.1).map(|_| byte()).collect()).collect();
-        let (mut a, mut b, mut c) = ([0u8; 960], [0u8; 960], [0u8; 960]);
-        let frame = if f.5 == 0 { vec![f.4] } else { vec![f.4, f.5] };
-        let frame: Vec<usize> = frame.iter().flat_map(|v| (0..16).map(move |k| v + f.6 * k)).collect();
-        let numbers: Vec<usize> = frame.iter().cycle().take(16 * FIELDS).copied().collect();
-        let two = [&lines[0][..], &lines[1][..]].concat();
-        let mut least = [f64::MAX; 5];
-        for _ in 0..RUNS {
-            least[0] = least[0].min(field_time(rattle, code, &lines, &mut a));
-            least[1] = least[1].min(field_time(plain, code, &lines, &mut b));
-            least[2] = least[2].min(field_time(special, code, &lines, &mut c));
-            let began = Instant::now();
-            let p = unsafe { bench_lines(black_box(code), numbers.as_ptr(), numbers.len(), two.as_ptr(), two.len()) };
-            least[3] = least[3].min(began.elapsed().as_secs_f64() * 1e9 / numbers.len() as f64);
-            let began = Instant::now();
-            let q = lines_in_rust(black_box(code), black_box(&numbers), black_box(&two));
-            least[4] = least[4].min(began.elapsed().as_secs_f64() * 1e9 / numbers.len() as f64);
-            assert!(p == q && p > 0);
+fn noise(x: &mut u32) -> u8 {
+    *x ^= *x << 13;
+    *x ^= *x >> 17;
+    *x ^= *x << 5;
+    *x as u8
+}
+
+type Program = fn(u8, &[u8], &mut [u8]) -> u8;
+
+// The first is the one that the others are beside.
+const PROGRAMS: &[(&str, Program)] = &[
+    ("host's call", host),
+    ("plain Rust", plain),
+    ("specialised Rust", special),
+    ("floor", floor),
+    #[cfg(before)]
+    ("host's call before", before),
+];
+
+fn sampling_head() {
+    let times: String = PROGRAMS.iter().map(|(name, _)| format!("{name}|")).collect();
+    let ratios: String = PROGRAMS[1..].iter().map(|(name, _)| format!("to {name}|")).collect();
+    println!("|Format|{times}{ratios}\n|--|{}", "--|".repeat(2 * PROGRAMS.len() - 1));
+}
+
+fn sampling_row(format: usize, lines: &[Vec<u8>]) {
+    let mut outs = [[0u8; 960]; PROGRAMS.len()];
+    let mut least = [f64::MAX; PROGRAMS.len()];
+    for _ in 0..RUNS {
+        for (i, (_, program)) in PROGRAMS.iter().enumerate() {
+            least[i] = least[i].min(field_time(*program, format as u8, lines, &mut outs[i]));
         }
-        assert!(a == b && a == c);
-        let [r, p, s, l, m] = least;
-        println!("|{}|{r:.0}|{p:.0}|{s:.0}|{:.2}|{:.2}|{l:.0}|{m:.0}|", f.0, r / p, r / s);
     }
+    for (i, (name, _)) in PROGRAMS.iter().enumerate() {
+        assert!(*name == "floor" || outs[i] == outs[0], "{}", name);
+    }
+    let times: String = least.iter().map(|ns| format!("{ns:.0}|")).collect();
+    let ratios: String = least[1..].iter().map(|ns| format!("{:.2}|", least[0] / ns)).collect();
+    println!("|{}|{times}{ratios}", FORMATS[format].0);
+}
+
+fn line_row(format: usize, lines: &[Vec<u8>]) {
+    let f = &FORMATS[format];
+    let fields = if f.5 == 0 { vec![f.4] } else { vec![f.4, f.5] };
+    let frame: Vec<usize> = fields.iter().flat_map(|v| (0..16).map(move |k| v + f.6 * k)).collect();
+    let numbers: Vec<usize> = frame.iter().cycle().take(16 * FIELDS).copied().collect();
+    let two = [&lines[0][..], &lines[1][..]].concat();
+    let mut least = [f64::MAX; 2];
+    for _ in 0..RUNS {
+        let began = Instant::now();
+        let p = unsafe { bench_lines(black_box(format as u8), numbers.as_ptr(), numbers.len(), two.as_ptr(), two.len()) };
+        least[0] = least[0].min(began.elapsed().as_secs_f64() * 1e9 / numbers.len() as f64);
+        let began = Instant::now();
+        let q = lines_in_rust(black_box(format as u8), black_box(&numbers), black_box(&two));
+        least[1] = least[1].min(began.elapsed().as_secs_f64() * 1e9 / numbers.len() as f64);
+        assert!(p == q && p > 0);
+    }
+    println!("|{}|{:.0}|{:.0}|{:.2}|", f.0, least[0], least[1], least[0] / least[1]);
+}
+
+fn main() {
+    let mut x = 0x12345;
+    let lines: Vec<Vec<Vec<u8>>> = FORMATS.iter().map(|f| (0..16).map(|_| (0..2 * f.1).map(|_| noise(&mut x)).collect()).collect()).collect();
+    println!("ns for the 16 lines of a field, the least of {RUNS} runs of {FIELDS} fields");
+    sampling_head();
+    (0..8).for_each(|format| sampling_row(format, &lines[format]));
+    println!("\nns for one call of Line, the 16th lines with their comparison among them");
+    println!("|Format|Line, Rattle|Line, Rust|ratio|");
+    println!("|--|--|--|--|");
+    (0..8).for_each(|format| line_row(format, &lines[format]));
     let mut out = [7u8; 61];
-    assert!(rattle(8, &[], &mut out) == 1 && rattle(6, &[0; 7679], &mut out) == 2 && rattle(6, &[0; 7680], &mut out[..59]) == 12);
+    assert!(host(8, &[], &mut out) == 1 && host(6, &[0; 7679], &mut out) == 2 && host(6, &[0; 7680], &mut out[..59]) == 12);
     assert!(out == [7; 61]);
-    assert!(rattle(6, &[0; 7680], &mut out) == 0 && out[59] == 0 && out[60] == 7);
+    assert!(host(6, &[0; 7680], &mut out) == 0 && out[59] == 0 && out[60] == 7);
 }

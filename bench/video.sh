@@ -1,3 +1,3 @@
 #!/bin/sh
-# Line sampling and Line in every format, Rattle against plain and specialised Rust: sh bench/video.sh
-exec "$(dirname "$0")/run" video
+# Line sampling by the host's call and Line in every format, beside plain and specialised Rust and the floor: sh bench/video.sh [--before COMMIT]
+exec "$(dirname "$0")/run" "$@" video bench_video host

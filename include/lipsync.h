@@ -1,18 +1,20 @@
 /*
- * The lip-sync card's containers, packets and line sampling, for a host in C or C++ on x86-64 Linux. Link with liblipsync.a or liblipsync.so (`make lib`).
+ * The lip-sync card's containers, packets, line sampling and monitored lines, for a host in C or C++ on x86-64 Linux. Link with liblipsync.a or
+ * liblipsync.so (`make lib`).
  *
- * Every call has the form
+ * Every call but lipsync_is_monitored, which takes two numbers and has no refusals, has the form
  *     uint8_t f(.., const uint8_t *in, size_t length, uint8_t *out, size_t room, size_t *written)
  * takes what it is given, checks it, and ends. It returns 0 or the number of the first refusal that applies, in the order given at the call.
  * A success writes the first *written bytes of out and no others. A refusal leaves out as it was and sets *written to 0.
  * `in` and `out` may be null where their length or room is 0. `written` is never null: a call with a null `written` is an error that no call checks.
  * The bytes read, the buffer written and `written` do not overlap. Calls keep nothing, so they may run at the same time.
  *
- * The four calls are proved to answer as document 01 says, with request A2 of 02. The inline functions of this header are plain C and only tested.
+ * The five calls are proved to answer as document 01 says, with request A2 of 02. The inline functions of this header are plain C and only tested.
  */
 #ifndef LIPSYNC_H
 #define LIPSYNC_H
 
+#include <stdbool.h>
 #include <stddef.h>
 #include <stdint.h>
 
@@ -25,9 +27,9 @@ extern "C" {
  * and a new PATCH changes neither. While MAJOR is 0 a new MINOR may do what a new MAJOR may: so the shared library's name has both, liblipsync.so.MAJOR.MINOR.
  */
 #define LIPSYNC_VERSION_MAJOR 0
-#define LIPSYNC_VERSION_MINOR 2
+#define LIPSYNC_VERSION_MINOR 3
 #define LIPSYNC_VERSION_PATCH 0
-#define LIPSYNC_VERSION "0.2.0"
+#define LIPSYNC_VERSION "0.3.0"
 
 /* What a call returns. lipsync_meaning() has the words. */
 enum {
@@ -153,6 +155,12 @@ uint8_t lipsync_read_packet(const uint8_t *words, size_t length, uint8_t *out, s
  */
 uint8_t lipsync_sample_line(uint8_t format, const uint8_t *line, size_t length, uint8_t *out, size_t room, size_t *written);
 
+/*
+ * Whether a line of a format, counted from 1, is monitored, in either field: false where there is no such format or no such line. Never refuses.
+ * A line for which this is false can be left out: no other answer changes.
+ */
+bool lipsync_is_monitored(uint8_t format, size_t line);
+
 /* What a call's number means, in words. */
 static inline const char *lipsync_meaning(uint8_t number) {
     switch (number) {
@@ -194,14 +202,9 @@ static inline unsigned lipsync_lines(uint8_t format) {
 
 /* The field of which a line is a monitored one: 1 (a progressive format's frame too) or 2; 0 where the line is not monitored, or there is no such format. */
 static inline int lipsync_monitored(uint8_t format, unsigned line) {
-    static const uint16_t first[LIPSYNC_FORMATS][2] = {{60, 323}, {68, 381}, {117, 0}, {89, 652}, {178, 0}, {206, 0}, {412, 0}, {412, 0}};
-    static const uint8_t step[LIPSYNC_FORMATS] = {10, 12, 32, 24, 48, 46, 92, 92};
-    if (format >= LIPSYNC_FORMATS) return 0;
-    for (int field = 0; field < 2; field++) {
-        unsigned start = first[format][field];
-        if (start != 0 && line >= start && line <= start + 15u * step[format] && (line - start) % step[format] == 0) return field + 1;
-    }
-    return 0;
+    static const uint16_t field_2[LIPSYNC_FORMATS] = {323, 381, 0, 652, 0, 0, 0, 0};
+    if (!lipsync_is_monitored(format, line)) return 0;
+    return field_2[format] != 0 && line >= field_2[format] ? 2 : 1;
 }
 
 #ifdef __cplusplus

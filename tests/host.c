@@ -1,6 +1,7 @@
 /*
- * What the host's calls answer, against document 01 with 02's A2: its figures, each refusal, short buffers between guard bytes, and damaged containers and packets from a
- * fixed seed. What is expected is worked out here from these rules, never taken from the library, and said in the header's names, so that a wrong constant is found.
+ * What the host's calls answer, against document 01 with 02's A2: its figures, each refusal, short buffers between guard bytes, which lines are monitored, and
+ * damaged containers and packets from a fixed seed. What is expected is worked out here from these rules, never taken from the library, and said in the header's names,
+ * so that a wrong constant is found.
  * Prints the number of checks; the first that fails ends it. With the word `meanings` it only prints what each number means.
  */
 #include "lipsync.h"
@@ -565,14 +566,27 @@ static void lines(void) {
     CHECK(lipsync_sample_line(LIPSYNC_FORMAT_485I, line, 1440, NULL, 0, &count) == LIPSYNC_REFUSED_ROOM);
 }
 
-/* ---- the header's own functions */
+/* ---- which lines are monitored */
 
-static int field_of(unsigned f, unsigned line) {
+static int field_of(unsigned f, size_t line) {
+    if (f >= sizeof formats / sizeof formats[0]) return 0;
     for (int field = 0; field < 2; field++)
         for (unsigned row = 0; row < MONITORED; row++)
             if (formats[f].first[field] != 0 && line == formats[f].first[field] + row * formats[f].rows) return field + 1;
     return 0;
 }
+
+/* the last ones would be monitored lines if a number were cut to 32, 16 or 8 bits */
+static void monitored(void) {
+    const size_t large[] = {SIZE_MAX, SIZE_MAX - 1, ((size_t)1 << 32) + 60, 65536 + 60, 256 + 60};
+    for (unsigned f = 0; f < 256; f++) {
+        for (size_t line = 0; line <= 3000; line++) CHECK(lipsync_is_monitored((uint8_t)f, line) == (field_of(f, line) != 0));
+        for (size_t i = 0; i < sizeof large / sizeof large[0]; i++) CHECK(lipsync_is_monitored((uint8_t)f, large[i]) == (field_of(f, large[i]) != 0));
+    }
+    for (size_t i = 0; i < sizeof large / sizeof large[0]; i++) CHECK(!lipsync_is_monitored(LIPSYNC_FORMAT_485I, large[i]));
+}
+
+/* ---- the header's own functions */
 
 static void header(void) {
     char version[32];
@@ -636,6 +650,7 @@ int main(int many, char **words) {
     packet_refusals();
     rooms();
     lines();
+    monitored();
     header();
     damage();
     printf("%lu\n", checks);

@@ -1,21 +1,10 @@
-// Exports for bench/video.sh.
+// The call Line as bench/video.sh measures it.
 ghost use mathlib.Core.Path.{_≡_};
 ghost use Prim.Native.Nat.{_<_};
 ghost use lib.ListN.{length};
-ghost use Rattle.sampling.specs.Samples.{sampleDone, sampleOut};
 ghost use Rattle.bench_video.specs.Bench.{valueOf, stepOf, afterLines};
 use picture::Picture;
 use picture::Told;
-
-// The number that sampling a line answers.
-#[no_mangle]
-pub extern "C" fn bench_sample(format: u8, line: &[u8], out: &mut [u8]) -> u8
-    ensures { λ r. ⌜ r ≡ sampleDone format (now (line .entry)) (now (out .entry)) .number ⌝ }
-    ensures { λ _. ⌜ now (out .exit) ≡ sampleOut format (now (line .entry)) (now (out .entry)) ⌝ }
-{
-    let done = sampling::sample_line(format, line, out);
-    done.number
-}
 
 struct After {
     picture: Picture,

@@ -1,4 +1,4 @@
--- The theorems: the three demands, frames, figures, an instant that is a block, how long a container is, wrong programs; and the lemmas that they stand on.
+-- The theorems: the three demands, frames, figures, an instant that is a block, lines left out, how long a container is, wrong programs; and the lemmas that they stand on.
 pub mod Demand1
 pub mod Demand2
 pub mod Demand3
@@ -6,6 +6,7 @@ pub mod Frames
 pub mod Figures
 pub mod AsBlock
 pub mod Rules
+pub mod LeftOut
 pub mod Sizes
 pub mod Wrong
 pub mod Contracts

@@ -4,6 +4,7 @@ ghost use lib.ListN.{length};
 ghost use Rattle.packet.specs.Writing.{writeDone, writeOut};
 ghost use Rattle.packet.specs.Reading as packet;
 ghost use Rattle.sampling.specs.Samples.{sampleDone, sampleOut};
+ghost use Rattle.picture.specs.Lines.{isMonitored};
 ghost use Rattle.host.specs.Host.{readDone, readOut};
 use laws::Done;
 
@@ -82,4 +83,12 @@ pub extern "C" fn lipsync_sample_line(
     let d = sampling::sample_line(format, line, out);
     *written = d.written;
     d.number
+}
+
+// Whether a line of a format is monitored, for a host that skips the others.
+#[no_mangle]
+pub extern "C" fn lipsync_is_monitored(format: u8, line: usize) -> bool
+    ensures { λ r. ⌜ r ≡ isMonitored format line ⌝ }
+{
+    picture::is_monitored(format, line)
 }

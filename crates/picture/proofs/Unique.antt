@@ -5,6 +5,7 @@ use Rattle.picture.proofs.is_ready.Reads as is-ready-reads
 use Rattle.picture.proofs.restart.Reads as restart-reads
 use Rattle.picture.proofs.hand_out.Reads as hand-out-reads
 use Rattle.picture.proofs.line.Reads as line-reads
+use Rattle.picture.proofs.is_monitored.Reads as is-monitored-reads
 
 pub fresh-unique : OneResult fresh-reads.Post
 fresh-unique κs a r r′ s s′ p q = one-value p q
@@ -20,3 +21,6 @@ hand-out-unique κs a r r′ s s′ p q = one-value (p .0) (q .0)
 
 pub line-unique : OneResult line-reads.Post
 line-unique κs a r r′ s s′ p q = one-value (p .0) (q .0)
+
+pub is-monitored-unique : OneResult is-monitored-reads.Post
+is-monitored-unique κs a r r′ s s′ p q = one-value p q

@@ -19,6 +19,10 @@ interlaced r = not (eqb (r .vstart2) 0)
 unfoldable pub monitored : Row → ℕ → Bool
 monitored r n = among (r .vstart1) (r .vstep) 16 n || (interlaced r && among (r .vstart2) (r .vstep) 16 n)
 
+-- whether line n of a format is monitored; none is of a format that is not listed
+unfoldable pub isMonitored : ℕ → ℕ → Bool
+isMonitored f n = ltb f 8 && monitored (rowOf f) n
+
 -- the line of row `row`, counted from 0, of field 1 or 2: "Monitored lines come top to bottom"
 unfoldable pub dueLine : Row → ℕ → ℕ → ℕ
 dueLine r field row = cond (eqb field 1) (r .vstart1) (r .vstart2) + r .vstep * row

@@ -6,6 +6,7 @@ ghost use mathlib.Core.Path.{_≡_};
 ghost use Prim.Native.Nat.{_*_, _<_};
 ghost use lib.ListN.{length};
 ghost use Rattle.sampling.specs.Formats.{rowOf};
+ghost use Rattle.picture.specs.Lines.{isMonitored};
 ghost use Rattle.picture.specs.Pictures.{emptyWith, freshPicture, isReady, restarted, handedOut, shownOne, shownTwo, frameAfter, fieldEnded, taken, lineOf, lineSays, handedValues};
 ghost use Rattle.picture.specs.Fields.{saysOf};
 ghost use Rattle.laws.specs.Video.{videoValues};
@@ -248,4 +249,14 @@ pub fn line(p: Picture, format: u8, number: usize, line: &[u8]) -> Scanned
         };
     }
     take(p, format, line)
+}
+
+// Whether a line of a format is monitored, in either field: not where the format is not listed, nor where it has no such line.
+pub fn is_monitored(format: u8, number: usize) -> bool
+    ensures { λ r. ⌜ r ≡ isMonitored format number ⌝ }
+{
+    if 8 <= format {
+        return false;
+    }
+    order::in_either_field(sampling::row_of(format), number)
 }

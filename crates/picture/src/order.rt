@@ -20,7 +20,7 @@ fn is_among(first: usize, step: usize, number: usize) -> bool
 }
 
 // Whether a line is monitored, in either field.
-fn is_monitored(r: Row, number: usize) -> bool
+pub(crate) fn in_either_field(r: Row, number: usize) -> bool
     requires { ⌜ 0 < r .vstep ⌝ }
     ensures { λ b. ⌜ b ≡ monitored r number ⌝ }
 {
@@ -48,7 +48,7 @@ fn in_order(r: Row, due: usize, ready: bool, number: usize) -> u8
     ensures { λ n. ⌜ n ≡ orderNumber r due ready number ⌝ }
 {
     if number != due {
-        if is_monitored(r, number) {
+        if in_either_field(r, number) {
             return 4;
         }
         return 0;

@@ -1,6 +1,6 @@
 -- A list that is written from the front.
 use Prim.Native.Nat.{ℕ, zero, suc, _+_, _<_}
-use mathlib.Core.Path.{_≡_, refl, sym, _∙_}
+use mathlib.Core.Path.{_≡_, refl, sym, ap, _∙_}
 use mathlib.Core.List.{List, [], _∷_, _++_, append-assoc}
 use native.Mathlib.Omega.{arith}
 use native.Mathlib.Numerals.{add-one}
@@ -25,6 +25,18 @@ module _ {A : Type 0} (f : ℕ → A) (n : ℕ) where
       rw (add-one, drop-cons d n x)
       (set-at (firsts f n) (getD d n x) (drop (suc n) d) (f n) n length-firsts
       ∙ sym (append-assoc (firsts f n) (f n ∷ []) (drop (suc n) d)))
+
+-- four more
+pub firsts-four :
+    {A : Type 0} (f : ℕ → A) (n : ℕ) (d : List A) (x : A) → n + 3 < length d
+    → set (set (set (set (firsts f n ++ drop n d) n (f n)) (n + 1) (f (n + 1))) (n + 2) (f (n + 2))) (n + 3) (f (n + 3)) ≡ firsts f (n + 4) ++ drop (n + 4) d
+firsts-four {A} f n d x h =
+    ap (λ (l : List A). set (set (set l (n + 1) (f (n + 1))) (n + 2) (f (n + 2))) (n + 3) (f (n + 3))) (next n (n + 1) refl (omega arith))
+    ∙ (ap (λ (l : List A). set (set l (n + 2) (f (n + 2))) (n + 3) (f (n + 3))) (next (n + 1) (n + 2) (omega arith) (omega arith))
+    ∙ (ap (λ (l : List A). set l (n + 3) (f (n + 3))) (next (n + 2) (n + 3) (omega arith) (omega arith)) ∙ next (n + 3) (n + 4) (omega arith) h))
+  where
+    next : (k m : ℕ) → m ≡ k + 1 → k < length d → set (firsts f k ++ drop k d) k (f k) ≡ firsts f m ++ drop m d
+    next k m e l = firsts-more f k d x l ∙ ap (λ (j : ℕ). firsts f j ++ drop j d) (sym e)
 
 pub sixty : (r : Row) (line : List ℕ) → length (pixels r line) ≡ 60
 unfolding pixels

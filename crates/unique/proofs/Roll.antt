@@ -12,7 +12,6 @@ use Rattle.bench_audio.proofs.bench_floats.Reads as bench-audio-bench-floats
 use Rattle.bench_session.proofs.bench_session.Reads as bench-session-bench-session
 use Rattle.bench_session.proofs.bench_pack.Reads as bench-session-bench-pack
 use Rattle.bench_session.proofs.bench_instants.Reads as bench-session-bench-instants
-use Rattle.bench_video.proofs.bench_sample.Reads as bench-video-bench-sample
 use Rattle.bench_video.proofs.bench_lines.Reads as bench-video-bench-lines
 use Rattle.container.proofs.blank_print.Reads as container-blank-print
 use Rattle.container.proofs.empty_contents.Reads as container-empty-contents
@@ -40,6 +39,7 @@ use Rattle.host.proofs.lipsync_read_container.Reads as host-lipsync-read-contai
 use Rattle.host.proofs.lipsync_write_packet.Reads as host-lipsync-write-packet
 use Rattle.host.proofs.lipsync_read_packet.Reads as host-lipsync-read-packet
 use Rattle.host.proofs.lipsync_sample_line.Reads as host-lipsync-sample-line
+use Rattle.host.proofs.lipsync_is_monitored.Reads as host-lipsync-is-monitored
 use Rattle.laws.proofs.copy_at.Reads as laws-copy-at
 use Rattle.laws.proofs.flag.Reads as laws-flag
 use Rattle.packet.proofs.write_packet.Reads as packet-write-packet
@@ -49,6 +49,7 @@ use Rattle.picture.proofs.is_ready.Reads as picture-is-ready
 use Rattle.picture.proofs.restart.Reads as picture-restart
 use Rattle.picture.proofs.hand_out.Reads as picture-hand-out
 use Rattle.picture.proofs.line.Reads as picture-line
+use Rattle.picture.proofs.is_monitored.Reads as picture-is-monitored
 use Rattle.rates.proofs.rate_listed.Reads as rates-rate-listed
 use Rattle.rates.proofs.interval.Reads as rates-interval
 use Rattle.rates.proofs.bytes_due.Reads as rates-bytes-due
@@ -125,9 +126,6 @@ bench-session-bench-pack-unique = bench-session-theorems.bench-pack-unique
 
 pub bench-session-bench-instants-unique : OneResult bench-session-bench-instants.Post
 bench-session-bench-instants-unique = bench-session-theorems.bench-instants-unique
-
-pub bench-video-bench-sample-unique : OneOutcome bench-video-bench-sample.Post (λ κs s. now (s .1 .1 .0))
-bench-video-bench-sample-unique = bench-video-theorems.bench-sample-unique
 
 pub bench-video-bench-lines-unique : OneResult bench-video-bench-lines.Post
 bench-video-bench-lines-unique = bench-video-theorems.bench-lines-unique
@@ -210,6 +208,9 @@ host-lipsync-read-packet-unique = host-theorems.lipsync-read-packet-unique
 pub host-lipsync-sample-line-unique : OneOutcome host-lipsync-sample-line.Post {X = List ℕ × ℕ} (λ κs s. (now (s .1 .1 .0), now (s .1 .1 .1 .0)))
 host-lipsync-sample-line-unique = host-theorems.lipsync-sample-line-unique
 
+pub host-lipsync-is-monitored-unique : OneResult host-lipsync-is-monitored.Post
+host-lipsync-is-monitored-unique = host-theorems.lipsync-is-monitored-unique
+
 pub laws-copy-at-unique : OneLeft laws-copy-at.Post (λ κs s. now (s .1 .0))
 laws-copy-at-unique = laws-theorems.copy-at-unique
 
@@ -236,6 +237,9 @@ picture-hand-out-unique = picture-theorems.hand-out-unique
 
 pub picture-line-unique : OneResult picture-line.Post
 picture-line-unique = picture-theorems.line-unique
+
+pub picture-is-monitored-unique : OneResult picture-is-monitored.Post
+picture-is-monitored-unique = picture-theorems.is-monitored-unique
 
 pub rates-rate-listed-unique : OneResult rates-rate-listed.Post
 rates-rate-listed-unique = rates-theorems.rate-listed-unique

@@ -3,7 +3,7 @@ use Prim.Native.Nat.{ℕ, _+_, _-_, _*_, _≤_, _<_}
 use mathlib.Core.Path.{_≡_, refl, ap, _∙_}
 use mathlib.Core.List.{_++_}
 use native.Mathlib.Omega.{arith}
-use native.Mathlib.Nat.{mul-le-mul-left, lt-of-mul-lt-mul-left, le-of-mul-le-mul-left}
+use native.Mathlib.Nat.{mul-le-mul-left}
 use lib.ListN.{length, drop, length-set}
 use Rattle.sampling.specs.Samples.{meanOf, pixelBy, firsts}
 use Rattle.sampling.proofs.Filled.{firsts-more}
@@ -11,59 +11,45 @@ use Rattle.sampling.proofs.fill.Statement.{statement}
 use Rattle.sampling.proofs.fill.Tie as tie
 
 abbrev Inv-loop : tie.InvT-loop
-Inv-loop line start step before n out₀ i₀ at₀ end out i at =
+Inv-loop line start step before n out₀ i₀ at₀ out i at =
     ((i ≤ 60) × (at ≡ start + step * i - before))
     × ((out ≡ firsts (pixelBy line start step before n) i ++ drop i out₀) × (length out ≡ length out₀))
 
 abbrev μ-loop : tie.MeasureT-loop
-μ-loop line start step before n out₀ i₀ at₀ end out i at = 60 - i
+μ-loop line start step before n out₀ i₀ at₀ out i at = 60 - i
 
 sub-at : tie.Need-sub-at Inv-loop μ-loop
 sub-at c = omega arith
-
-mul-end : tie.Need-mul-end Inv-loop μ-loop
-mul-end c = omega arith
-
-add-end : tie.Need-add-end Inv-loop μ-loop
-add-end c = omega arith
 
 loop-holds : tie.Need-loop-holds Inv-loop μ-loop
 unfolding firsts
 loop-holds c = ((omega arith, omega arith), (refl, refl))
 
 -- a pixel of the 60, so its place is at most the last one's
-spaced :
-    (c : tie.In-loop Inv-loop μ-loop)
-    → (c .before .loop .i < 60)
-    × (c .before .before .before .before .args .step * c .before .loop .i ≤ c .before .before .before .before .args .step * 59)
-spaced c =
-    let step = c .before .before .before .before .args .step in
-    let j : step * c .before .loop .i < step * 60 = omega arith in
-    let h : c .before .loop .i < 60 = lt-of-mul-lt-mul-left step j in
-    (h, mul-le-mul-left step (omega arith))
+spaced : (c : tie.In-loop Inv-loop μ-loop) → c .before .before .before .before .args .step * c .before .loop .i ≤ c .before .before .before .before .args .step * 59
+spaced c = let h : c .before .loop .i ≤ 59 = omega arith in mul-le-mul-left (c .before .before .before .before .args .step) h
 
 mean-requires : tie.Need-mean-requires Inv-loop μ-loop
-mean-requires c κs = omega (arith, spaced c .1)
+mean-requires c κs = omega (arith, spaced c)
 
 slice-write-out : tie.Need-slice-write-out Inv-loop μ-loop
-slice-write-out c = omega (arith, spaced (c .before))
+slice-write-out c = omega arith
 
 add-at : tie.Need-add-at Inv-loop μ-loop
-add-at c = omega (arith, spaced (c .before) .1)
+add-at c = omega (arith, spaced (c .before))
 
 add-i : tie.Need-add-i Inv-loop μ-loop
-add-i c = omega (arith, spaced (c .before) .0)
+add-i c = omega arith
 
 loop-less : tie.Need-loop-less Inv-loop μ-loop
-loop-less c = omega (arith, spaced (c .before) .0)
+loop-less c = omega arith
 
 loop-again : tie.Need-loop-again Inv-loop μ-loop
 unfolding pixelBy
 loop-again c =
     let l = c .before .before .loop in
     let a = c .before .before .before .before .before .args in
-    let e : c .mean .result ≡ meanOf (a .line .now) (a .start + a .step * l .i - a .before) (a .n) = c .mean .ensures ∙ ap (λ (x : ℕ). meanOf (a .line .now) x (a .n)) (l .inv .0 .1) in
-    let h = spaced (c .before) .0 in (
+    let e : c .mean .result ≡ meanOf (a .line .now) (a .start + a .step * l .i - a .before) (a .n) = c .mean .ensures ∙ ap (λ (x : ℕ). meanOf (a .line .now) x (a .n)) (l .inv .0 .1) in (
       (omega arith, omega arith),
       (
         rw (l .inv .1 .0, e) (firsts-more (pixelBy (a .line .now) (a .start) (a .step) (a .before) (a .n)) (l .i) (a .out .now) 0 (omega arith)),
@@ -78,10 +64,7 @@ returns : tie.Need-returns Inv-loop μ-loop
 returns c =
     let l = c .before .loop in
     let a = c .before .before .before .before .args in
-    let j : a .step * 60 ≤ a .step * l .i = omega arith in
-    let h : 60 ≤ l .i = le-of-mul-le-mul-left j (omega arith) in
-    l .inv .1 .0
-    ∙ ap (λ (k : ℕ). firsts (pixelBy (a .line .now) (a .start) (a .step) (a .before) (a .n)) k ++ drop k (a .out .now)) (omega arith)
+    l .inv .1 .0 ∙ ap (λ (k : ℕ). firsts (pixelBy (a .line .now) (a .start) (a .step) (a .before) (a .n)) k ++ drop k (a .out .now)) (omega arith)
 
 pub fill-spec : {M : Type 1} → statement M
 fill-spec =
@@ -90,8 +73,6 @@ fill-spec =
     Inv-loop
     μ-loop
     sub-at
-    mul-end
-    add-end
     loop-holds
     mean-requires
     slice-write-out

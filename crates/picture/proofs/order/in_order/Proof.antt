@@ -8,18 +8,18 @@ use Rattle.picture.proofs.Monitored.{not-first, not-five}
 use Rattle.picture.proofs.order.in_order.Statement.{statement}
 use Rattle.picture.proofs.order.in_order.Tie as tie
 
-is-monitored-requires : tie.Need-is-monitored-requires
-is-monitored-requires c κs = search needs
+in-either-field-requires : tie.Need-in-either-field-requires
+in-either-field-requires c κs = search needs
 
 returns : tie.Need-returns
 unfolding orderNumber
-returns c = simp (ne-eqb _ _ (c .before .before .if1 .taken), sym (c .before .is-monitored .ensures) ∙ c .if2 .taken)
+returns c = simp (ne-eqb _ _ (c .before .before .if1 .taken), sym (c .before .in-either-field .ensures) ∙ c .if2 .taken)
 
 returns-2 : tie.Need-returns-2
 unfolding orderNumber
 returns-2 c =
     let a = c .before .before .before .args in
-    let m = sym (c .before .is-monitored .ensures) ∙ c .if2 .left in
+    let m = sym (c .before .in-either-field .ensures) ∙ c .if2 .left in
     simp (m, not-five (a .ready) _ (not-first (a .r) (a .number) m))
 
 returns-3 : tie.Need-returns-3
@@ -38,4 +38,4 @@ returns-5 c =
 
 pub in-order-spec : {M : Type 1} → statement M
 in-order-spec =
-    tie.close (tie.spec is-monitored-requires returns returns-2 returns-3 returns-4 returns-5)
+    tie.close (tie.spec in-either-field-requires returns returns-2 returns-3 returns-4 returns-5)

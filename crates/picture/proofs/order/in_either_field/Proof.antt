@@ -1,11 +1,11 @@
--- `picture::order::is_monitored` meets its contract.
+-- `picture::order::in_either_field` meets its contract.
 use mathlib.Core.Path.{_≡_, sym, _∙_}
 use mathlib.Core.Bool.{false}
 use borrow.Author.Needs.{needs}
 use borrow.Author.Tests.{eq-eqb, ne-eqb}
 use Rattle.picture.specs.Lines.{among, interlaced, monitored}
-use Rattle.picture.proofs.order.is_monitored.Statement.{statement}
-use Rattle.picture.proofs.order.is_monitored.Tie as tie
+use Rattle.picture.proofs.order.in_either_field.Statement.{statement}
+use Rattle.picture.proofs.order.in_either_field.Tie as tie
 
 is-among-requires : tie.Need-is-among-requires
 is-among-requires c κs = search needs
@@ -28,6 +28,6 @@ returns-3 : tie.Need-returns-3
 unfolding monitored interlaced
 returns-3 c = simp (first (c .before .before .before), ne-eqb _ _ (c .before .if2 .left), c .is-among2 .ensures)
 
-pub is-monitored-spec : {M : Type 1} → statement M
-is-monitored-spec =
+pub in-either-field-spec : {M : Type 1} → statement M
+in-either-field-spec =
     tie.close (tie.spec is-among-requires returns returns-2 is-among-requires-2 returns-3)
