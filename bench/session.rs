@@ -331,8 +331,9 @@ impl Session {
 const INSTANTS: usize = 1920;
 const RUNS: usize = 1000;
 const INSTANT_RUNS: usize = 100;
+const GROWTH_RUNS: usize = 200;
 
-// What is measured, and on what: frames of 32 monitored lines, `extra` others and `blocks` sound blocks for each of two fingerprints.
+// What is measured, and on what: frames of a format's monitored lines, `extra` others and `blocks` sound blocks for each fingerprint.
 #[derive(Clone, Copy)]
 struct Load {
     rounds: usize,
@@ -341,8 +342,11 @@ struct Load {
 }
 
 struct Lent {
+    format: usize,
+    rate: u8,
     rule: u8,
-    mix: u8,
+    mixes: Vec<u8>,
+    room: usize,
     even: Vec<u8>,
     odd: Vec<u8>,
     block: Vec<u8>,
@@ -361,6 +365,10 @@ extern "C" {
         rule: u8, mix: u8, rounds: usize, extra: usize, blocks: usize, even: *const u8, even_size: usize, odd: *const u8, odd_size: usize, block: *const u8,
         block_size: usize,
     ) -> u64;
+    fn bench_frames(
+        format: u8, rate: u8, mixes: *const u8, count: usize, rounds: usize, even: *const u8, even_size: usize, odd: *const u8, odd_size: usize,
+        block: *const u8, block_size: usize,
+    ) -> u64;
     fn bench_pack(
         mix: u8, rounds: usize, blocks: usize, even: *const u8, even_size: usize, odd: *const u8, odd_size: usize, block: *const u8, block_size: usize,
     ) -> u64;
@@ -376,19 +384,30 @@ fn rattle(lent: &Lent, load: Load) -> u64 {
     let (even, odd, block) = (&lent.even, &lent.odd, &lent.block);
     unsafe {
         bench_session(
-            lent.rule, lent.mix, load.rounds, load.extra, load.blocks, even.as_ptr(), even.len(), odd.as_ptr(), odd.len(), block.as_ptr(), block.len(),
+            lent.rule, lent.mixes[0], load.rounds, load.extra, load.blocks, even.as_ptr(), even.len(), odd.as_ptr(), odd.len(), block.as_ptr(), block.len(),
+        )
+    }
+}
+
+// One block for each fingerprint, by rule 1.
+fn rattle_frames(lent: &Lent, load: Load) -> u64 {
+    let (mixes, even, odd, block) = (&lent.mixes, &lent.even, &lent.odd, &lent.block);
+    unsafe {
+        bench_frames(
+            lent.format as u8, lent.rate, mixes.as_ptr(), mixes.len(), load.rounds, even.as_ptr(), even.len(), odd.as_ptr(), odd.len(), block.as_ptr(),
+            block.len(),
         )
     }
 }
 
 fn rattle_packs(lent: &Lent, load: Load) -> u64 {
     let (even, odd, block) = (&lent.even, &lent.odd, &lent.block);
-    unsafe { bench_pack(lent.mix, load.rounds, load.blocks, even.as_ptr(), even.len(), odd.as_ptr(), odd.len(), block.as_ptr(), block.len()) }
+    unsafe { bench_pack(lent.mixes[0], load.rounds, load.blocks, even.as_ptr(), even.len(), odd.as_ptr(), odd.len(), block.as_ptr(), block.len()) }
 }
 
 // What Pack changes is put back after each, so that the next finds the session as it was.
 fn rust_packs(lent: &Lent, load: Load) -> u64 {
-    let mut s = Session::new(black_box(3), black_box(5), black_box(lent.rule), &[lent.mix; 2]);
+    let mut s = lent.begun();
     let mut out = [0u8; 32];
     filled(&mut s, &lent.even, lent, load);
     s.pack(&[], &mut out).unwrap();
@@ -412,36 +431,50 @@ fn sum_in(total: u64, out: &[u8]) -> u64 {
     out.iter().fold(total, |t, b| (31 * t + *b as u64) % 4294967296)
 }
 
-fn both_fields(s: &mut Session, line: &[u8]) {
-    for first in [89, 652] {
+impl Lent {
+    fn begun(&self) -> Session {
+        Session::new(black_box(self.format), black_box(self.rate), black_box(self.rule), &self.mixes)
+    }
+
+    // Two fields have the first line, two the second and so on: a byte is compared with that of the second preceding field (01, Video).
+    fn line(&self, frame: usize) -> &[u8] {
+        let turn = if FORMATS[self.format].vstart[1] == 0 { frame / 2 } else { frame };
+        if turn % 2 == 0 { &self.even } else { &self.odd }
+    }
+}
+
+// The monitored lines of a frame.
+fn fields(s: &mut Session, line: &[u8]) {
+    let f = &FORMATS[s.format];
+    for &first in f.vstart.iter().filter(|&&first| first != 0) {
         for k in 0..16 {
-            black_box(s.line(first + 24 * k, line).unwrap());
+            black_box(s.line(first + f.vstep * k, line).unwrap());
         }
     }
 }
 
 // A frame that is ready, with its sound.
 fn filled(s: &mut Session, line: &[u8], lent: &Lent, load: Load) {
-    both_fields(s, line);
+    fields(s, line);
     for _ in 0..load.extra {
         black_box(s.line(1000, line).unwrap());
     }
     for _ in 0..load.blocks {
-        black_box(s.sound(0, &lent.block).unwrap());
-        black_box(s.sound(1, &lent.block).unwrap());
+        for k in 0..lent.mixes.len() {
+            black_box(s.sound(k, &lent.block).unwrap());
+        }
     }
 }
 
 // Panics where a call is refused: none of those measured is.
 fn rust(lent: &Lent, load: Load) -> u64 {
-    let mut s = Session::new(black_box(3), black_box(5), black_box(lent.rule), &[lent.mix; 2]);
+    let mut s = lent.begun();
     let mut total = 0u64;
     for i in 0..load.rounds {
-        let line = if i % 2 == 0 { &lent.even } else { &lent.odd };
-        filled(&mut s, line, lent, load);
-        let mut out = [0u8; 32];
-        black_box(s.pack(&[], &mut out).unwrap());
-        total = sum_in(total, &out);
+        filled(&mut s, lent.line(i), lent, load);
+        let mut out = [0u8; 254];
+        black_box(s.pack(&[], &mut out[..lent.room]).unwrap());
+        total = sum_in(total, &out[..lent.room]);
     }
     total
 }
@@ -459,7 +492,7 @@ fn rust_instants(lent: &Floating, (rounds, instants): (usize, usize)) -> u64 {
     let mut s = Session::new(black_box(3), black_box(5), black_box(lent.rule), &lent.mixes);
     let mut total = 0u64;
     for _ in 0..rounds {
-        both_fields(&mut s, &lent.line);
+        fields(&mut s, &lent.line);
         let mut k = 0;
         Floats::each(mix, values, |i| {
             black_box(s.instant(k, i).unwrap());
@@ -494,6 +527,15 @@ fn between<T, W: Copy>(runs: usize, programs: Programs<T, W>, lent: &T, less: W,
     [0, 1].map(|i| (least[1][i] - least[0][i]) / calls as f64)
 }
 
+// Lines and sound of noise.
+fn noise(mut random: impl FnMut() -> u32, format: usize, rate: u8, rule: u8, mixes: Vec<u8>, instants: usize) -> Lent {
+    let mut line = || (0..2 * FORMATS[format].width).map(|_| random() as u8).collect();
+    let (even, odd) = (line(), line());
+    // loud and soft stretches, so that the bits differ
+    let block = (0..instants * instant_bytes(mixes[0]) / 2).flat_map(|i| ((random() >> 16) as i16 >> (i / 97 % 12)).to_le_bytes()).collect();
+    Lent { format, rate, rule, mixes, room: 254, even, odd, block }
+}
+
 fn main() {
     let mut x = 0x2545f491u32;
     let mut random = || {
@@ -502,14 +544,15 @@ fn main() {
         x ^= x << 5;
         x
     };
-    let mut lent = |rule: u8, mix: u8| Lent {
-        rule,
-        mix,
-        even: (0..3840).map(|_| random() as u8).collect(),
-        odd: (0..3840).map(|_| random() as u8).collect(),
-        // loud and soft stretches, so that the bits differ
-        block: (0..INSTANTS * instant_bytes(mix) / 2).flat_map(|i| ((random() >> 16) as i16 >> (i / 97 % 12)).to_le_bytes()).collect(),
-    };
+    calls(&mut random);
+    println!();
+    instants(&mut random);
+    println!();
+    growth(&mut random);
+}
+
+fn calls(random: &mut impl FnMut() -> u32) {
+    let mut lent = |rule: u8, mix: u8| Lent { room: 32, ..noise(&mut *random, 3, 5, rule, vec![mix; 2], INSTANTS) };
     println!("| 1080i, 25 Hz, two fingerprints | Rattle, ns | Rust, ns | ratio |");
     println!("|--|--|--|--|");
     let load = |rounds, extra, blocks| Load { rounds, extra, blocks };
@@ -533,13 +576,16 @@ fn main() {
     ] {
         row(name, between(RUNS, calls, &two, load(2, extra, blocks), load(7, extra, blocks), 5));
     }
-    println!();
+}
+
+fn instants(random: &mut impl FnMut() -> u32) {
     println!("| an instant in floating point | Rattle, ns | Rust, ns | ratio | all fingerprints at 48 kHz, part of a core: Rattle | Rust |");
     println!("|--|--|--|--|--|--|");
+    let line: Vec<u8> = (0..2 * FORMATS[3].width).map(|_| random() as u8).collect();
     for count in [1, 2, 32] {
         for (rule, mix, name) in floats::MIXES {
             let values = floats::values((0..2 * INSTANTS * count * mix as usize).map(|_| random()));
-            instant_row(name, &Floating { rule, mixes: vec![mix; count], line: two.even.clone(), values });
+            instant_row(name, &Floating { rule, mixes: vec![mix; count], line: line.clone(), values });
         }
     }
 }
@@ -552,4 +598,49 @@ fn instant_row(name: &str, lent: &Floating) {
     let [a, b] = between(INSTANT_RUNS, programs, lent, (2, INSTANTS), (2, 2 * INSTANTS), 2 * INSTANTS * count);
     let part = |ns: f64| ns * 48000.0 * count as f64 / 1e7;
     println!("| {name}, {count} fingerprint{} | {a:.1} | {b:.1} | {:.2} | {:.1} % | {:.2} % |", if count == 1 { "" } else { "s" }, a / b, part(a), part(b));
+}
+
+// Each format's name and the fastest rate that it takes (01, Audio): its code, its name, and a frame's seconds as a fraction.
+const FASTEST: [(&str, u8, &str, [usize; 2]); 8] = [
+    ("485i", 6, "29.97", [1001, 30000]),
+    ("576i", 5, "25", [1, 25]),
+    ("720p", 11, "60", [1, 60]),
+    ("1080i", 7, "30", [1, 30]),
+    ("1080p", 11, "60", [1, 60]),
+    ("2048x1080p", 11, "60", [1, 60]),
+    ("3840x2160p", 11, "60", [1, 60]),
+    ("4096x2160p", 11, "60", [1, 60]),
+];
+
+fn growth(random: &mut impl FnMut() -> u32) {
+    println!("| Format | Rate | fingerprints | a frame in Rattle, us | in Rust, us | Ratio | Feeds one core carries |");
+    println!("|--|--|--|--|--|--|--|");
+    for (format, &(_, rate, _, period)) in FASTEST.iter().enumerate() {
+        for count in [1, 8, 32] {
+            let instants = (48000 * period[0]).div_ceil(period[1]);
+            growth_row(&noise(&mut *random, format, rate, 1, vec![2; count], instants));
+        }
+    }
+}
+
+// A frame with video and audio. At 29.97 Hz a block of whole instants brings a little more than the cadence takes, which over so few frames stays far below
+// the 256 bits that have room.
+fn growth_row(lent: &Lent) {
+    let (name, _, rate, period) = FASTEST[lent.format];
+    let load = |rounds| Load { rounds, extra: 0, blocks: 1 };
+    assert_full(lent, load(7));
+    let [a, b] = between(GROWTH_RUNS, [rattle_frames, rust], lent, load(2), load(7), 5);
+    let feeds = (1e9 * period[0] as f64 / period[1] as f64 / a).floor();
+    println!("| {name} | {rate} | {} | {:.1} | {:.1} | {:.2} | {feeds:.0} |", lent.mixes.len(), a / 1e3, b / 1e3, a / b);
+}
+
+// Every frame after the second has audio, and video that is not 0.
+fn assert_full(lent: &Lent, load: Load) {
+    let mut s = lent.begun();
+    for i in 0..load.rounds {
+        let mut out = [0u8; 254];
+        filled(&mut s, lent.line(i), lent, load);
+        s.pack(&[], &mut out).unwrap();
+        assert!(i < 2 || out[3] % 4 == 3 && out[5] > 0, "a frame without video or audio");
+    }
 }

@@ -1,16 +1,16 @@
 -- The frames with instants in floating point that are measured: the fingerprints hear them in turn, as of a player that has the sound of all.
 use Prim.Native.Nat.{ℕ, zero, suc, _+_, _-_, _*_, _/_}
-use mathlib.Core.List.{List, []}
+use mathlib.Core.List.{List}
 use mathlib.Core.Bool.{cond}
 use lib.Dec.{eqb, ltb}
 use lib.Ieee.{Float}
 use lib.ListN.{length, drop, replicate}
+use Rattle.sampling.specs.Formats.{rowOf}
 use Rattle.session.specs.declared.Session.{Session}
 use Rattle.session.specs.Session.{setupOf, instantOf}
-use Rattle.session.specs.Packing.{packOf, packOut}
 use Rattle.bench_audio.specs.Instants as values
 use Rattle.bench_session.specs.declared.Turn.{Turn}
-use Rattle.bench_session.specs.Frames.{bothFields, bytesIn}
+use Rattle.bench_session.specs.Frames.{fieldsOf, packedIn}
 
 -- the fingerprint after k, where the last one has this number
 unfoldable pub turnAfter : ℕ → ℕ → ℕ
@@ -30,12 +30,9 @@ instantsHeard last mix l s (suc n) = instantOf (instantsHeard last mix l s n) (t
 unfoldable pub allHeard : ℕ → ℕ → List Float → Session → Session
 allHeard count mix l s = cond (eqb count 0) s (instantsHeard (count - 1) mix l s (length l / mix))
 
--- a frame is filled and packed, with no ID, into 254 bytes that were zero
+-- a frame of 1080i, packed into 254 bytes
 unfoldable pub instantFrame : ℕ → ℕ → List ℕ → List Float → Turn → Turn
-instantFrame count mix line l t = record {
-  session = packOf (allHeard count mix l (bothFields line (t .session))) [] 254 .session;
-  sum = bytesIn (t .sum) (packOut (allHeard count mix l (bothFields line (t .session))) [] (replicate 254 0));
-}
+instantFrame count mix line l t = packedIn (replicate 254 0) (allHeard count mix l (fieldsOf (rowOf 3) line (t .session))) (t .sum)
 
 unfoldable pub instantTurns : ℕ → List ℕ → ℕ → List ℕ → List Float → ℕ → Turn
 instantTurns rule mixes mix line l zero = record { session = setupOf 3 5 rule mixes .session; sum = 0 }

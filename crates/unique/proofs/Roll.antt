@@ -10,6 +10,7 @@ use Rattle.bench_audio.proofs.bench_audio.Reads as bench-audio-bench-audio
 use Rattle.bench_audio.proofs.instant_of.Reads as bench-audio-instant-of
 use Rattle.bench_audio.proofs.bench_floats.Reads as bench-audio-bench-floats
 use Rattle.bench_session.proofs.bench_session.Reads as bench-session-bench-session
+use Rattle.bench_session.proofs.bench_frames.Reads as bench-session-bench-frames
 use Rattle.bench_session.proofs.bench_pack.Reads as bench-session-bench-pack
 use Rattle.bench_session.proofs.bench_instants.Reads as bench-session-bench-instants
 use Rattle.bench_video.proofs.bench_lines.Reads as bench-video-bench-lines
@@ -120,6 +121,9 @@ bench-audio-bench-floats-unique = bench-audio-theorems.bench-floats-unique
 
 pub bench-session-bench-session-unique : OneResult bench-session-bench-session.Post
 bench-session-bench-session-unique = bench-session-theorems.bench-session-unique
+
+pub bench-session-bench-frames-unique : OneResult bench-session-bench-frames.Post
+bench-session-bench-frames-unique = bench-session-theorems.bench-frames-unique
 
 pub bench-session-bench-pack-unique : OneResult bench-session-bench-pack.Post
 bench-session-bench-pack-unique = bench-session-theorems.bench-pack-unique

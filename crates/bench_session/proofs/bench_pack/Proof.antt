@@ -1,10 +1,12 @@
 -- `bench_session::bench_pack` meets its contract.
-use mathlib.Core.Path.{_≡_, ap, _∙_}
+use mathlib.Core.Path.{ap, ap₂, _∙_}
+use native.Mathlib.Omega.{arith}
 use borrow.Author.Needs.{needs}
 use Rattle.session.specs.declared.Session.{Session}
 use Rattle.session.specs.declared.Begun.{Begun}
+use Rattle.bench_session.specs.declared.Load.{Load}
 use Rattle.bench_session.specs.declared.Turn.{Turn}
-use Rattle.bench_session.specs.Frames.{begunWith, filledWith, frameOf, secondWith, packings}
+use Rattle.bench_session.specs.Frames.{begunWith, twoOf1080i, filledWith, frameOf, secondWith, packings}
 use Rattle.bench_session.proofs.bench_pack.Statement.{statement}
 use Rattle.bench_session.proofs.bench_pack.Tie as tie
 
@@ -14,8 +16,12 @@ slice-aggregate-setup c = search needs
 setup-requires : tie.Need-setup-requires
 setup-requires c κs = search needs
 
+two-of-1080i-requires : tie.Need-two-of-1080i-requires
+two-of-1080i-requires c κs = search needs
+
 frame-requires : tie.Need-frame-requires
-frame-requires c κs = search needs
+unfolding twoOf1080i
+frame-requires c κs = (omega arith, omega (arith, ap (λ (l : Load). l .room) (c .two-of-1080i .ensures)))
 
 filled-requires : tie.Need-filled-requires
 filled-requires c κs = search needs
@@ -26,13 +32,13 @@ packed-again-requires c κs = search needs
 returns : tie.Need-returns
 unfolding secondWith begunWith
 returns c =
-    let a = c .before .before .before .before .before .before .before .before .before .before .args in
-    let then : Session → Session = filledWith 0 (a .blocks) (a .odd .now) (a .block .now) in
-    let one : Session → Session = λ s. frameOf 0 (a .blocks) (a .even .now) (a .block .now) (record { session = s; sum = 0 }) .session in
-    let begun = ap (λ (b : Begun). b .session) (c .before .before .before .before .before .setup .ensures) in
-    let first = ap (λ (t : Turn). t .session) (c .before .before .before .frame .ensures .0) in
-    c .packed-again .ensures
-    ∙ ap (λ (s : Session). packings s (a .rounds)) (c .before .filled .ensures ∙ ap then (first ∙ ap one begun))
+    let a = c .before .before .before .before .before .before .before .before .before .before .before .args in
+    let load = c .before .before .before .before .two-of-1080i .ensures in
+    let begun = ap (λ (b : Begun). b .session) (c .before .before .before .before .before .before .setup .ensures) in
+    let one : Load → Session → Session = λ l s. frameOf l (a .even .now) (a .block .now) (record { session = s; sum = 0 }) .session in
+    let first = ap (λ (t : Turn). t .session) (c .before .before .before .frame .ensures .0) ∙ ap₂ one load begun in
+    let ready = c .before .filled .ensures ∙ ap₂ (λ (l : Load) (s : Session). filledWith l (a .odd .now) (a .block .now) s) load first in
+    c .packed-again .ensures ∙ ap (λ (s : Session). packings s (a .rounds)) ready
 
 pub bench-pack-spec : {M : Type 1} → statement M
 bench-pack-spec =
@@ -40,6 +46,7 @@ bench-pack-spec =
     (tie.spec
     slice-aggregate-setup
     setup-requires
+    two-of-1080i-requires
     frame-requires
     filled-requires
     packed-again-requires

@@ -6,8 +6,8 @@ use borrow.Author.Needs.{needs}
 use Rattle.bench_session.proofs.filled.Statement.{statement}
 use Rattle.bench_session.proofs.filled.Tie as tie
 
-both-fields-requires : tie.Need-both-fields-requires
-both-fields-requires c κs = search needs
+fields-requires : tie.Need-fields-requires
+fields-requires c κs = search needs
 
 others-requires : tie.Need-others-requires
 others-requires c κs = search needs
@@ -22,9 +22,8 @@ returns c =
     let line = a .line .now in
     let block = a .block .now in
     c .heard .ensures
-    ∙ ap (λ (t : Session). sounds t block (a .blocks)) (c .before .others .ensures)
-    ∙ ap (λ (t : Session). sounds (otherLines t line (a .extra)) block (a .blocks)) (c .before .before .both-fields .ensures)
+    ∙ ap (λ (t : Session). sounds (a .load .count) block t (a .load .blocks)) (c .before .others .ensures)
+    ∙ ap (λ (t : Session). sounds (a .load .count) block (otherLines t line (a .load .others)) (a .load .blocks)) (c .before .before .fields .ensures)
 
 pub filled-spec : {M : Type 1} → statement M
-filled-spec =
-    tie.close (tie.spec both-fields-requires others-requires heard-requires returns)
+filled-spec = tie.close (tie.spec fields-requires others-requires heard-requires returns)

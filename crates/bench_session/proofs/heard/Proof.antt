@@ -5,27 +5,22 @@ use native.Mathlib.Numerals.{add-one}
 use native.Mathlib.Omega.{arith}
 use borrow.Author.Needs.{needs}
 use Rattle.session.specs.declared.Session.{Session}
-use Rattle.session.specs.declared.Sounded.{Sounded}
-use Rattle.session.specs.Session.{soundOf}
-use Rattle.bench_session.specs.Frames.{sounds}
+use Rattle.bench_session.specs.Frames.{eachHeard, sounds}
 use Rattle.bench_session.proofs.heard.Statement.{statement}
 use Rattle.bench_session.proofs.heard.Tie as tie
 
 abbrev Inv-loop : tie.InvT-loop
-Inv-loop n block t₀ k₀ t k = (k ≤ n) × (t ≡ sounds t₀ block k)
+Inv-loop count n block t₀ k₀ t k = (k ≤ n) × (t ≡ sounds count block t₀ k)
 
 abbrev μ-loop : tie.MeasureT-loop
-μ-loop n block t₀ k₀ t k = n - k
+μ-loop count n block t₀ k₀ t k = n - k
 
 loop-holds : tie.Need-loop-holds Inv-loop μ-loop
 unfolding sounds
 loop-holds c = (search needs, refl)
 
-sound-requires : tie.Need-sound-requires Inv-loop μ-loop
-sound-requires c κs = search needs
-
-sound-requires-2 : tie.Need-sound-requires-2 Inv-loop μ-loop
-sound-requires-2 c κs = search needs
+each-heard-requires : tie.Need-each-heard-requires Inv-loop μ-loop
+each-heard-requires c κs = search needs
 
 add-k : tie.Need-add-k Inv-loop μ-loop
 add-k c = search needs
@@ -36,28 +31,17 @@ loop-less c = search needs
 loop-again : tie.Need-loop-again Inv-loop μ-loop
 unfolding sounds
 loop-again c =
-    let a = c .before .before .before .before .before .before .before .args in
-    let l = c .before .before .before .before .before .loop in
-    let first : c .before .before .before .sound .result .session ≡ soundOf (sounds (a .s) (a .block .now) (l .k)) 0 (a .block .now) .session =
-    ap (λ (r : Sounded). r .session) (c .before .before .before .sound .ensures ∙ ap (λ (t : Session). soundOf t 0 (a .block .now)) (l .inv .1)) in
-    (search needs, rw add-one (ap (λ (r : Sounded). r .session) (c .before .sound2 .ensures ∙ ap (λ (t : Session). soundOf t 1 (a .block .now)) first)))
+    let a = c .before .before .before .before .args in
+    let l = c .before .before .loop in
+    (search needs, rw add-one (c .each-heard .ensures ∙ ap (λ (t : Session). eachHeard (a .block .now) t (a .count)) (l .inv .1)))
 
 returns : tie.Need-returns Inv-loop μ-loop
 returns c =
     let a = c .before .before .before .args in
     let all : c .before .loop .k ≡ a .n = omega arith in
-    c .before .loop .inv .1 ∙ ap (sounds (a .s) (a .block .now)) all
+    c .before .loop .inv .1 ∙ ap (sounds (a .count) (a .block .now) (a .s)) all
 
 pub heard-spec : {M : Type 1} → statement M
 heard-spec =
     tie.close
-    (tie.spec
-    Inv-loop
-    μ-loop
-    loop-holds
-    sound-requires
-    sound-requires-2
-    add-k
-    loop-less
-    loop-again
-    returns)
+    (tie.spec Inv-loop μ-loop loop-holds each-heard-requires add-k loop-less loop-again returns)
