@@ -39,7 +39,11 @@ mean-floor line s n p =
     let l : t % n < n = mod-lt t p in
     (omega arith, rw mul-add (omega arith))
 
--- the mean of one sample is the sample
+-- the sum, and the mean, of one sample is the sample
+pub one-tap : (line : List ℕ) (s : ℕ) → tapSum line s 1 ≡ sampleAt line s
+unfolding tapSum
+one-tap line s = rw (zero-add (sampleAt line (s + 0))) (ap (sampleAt line) (add-zero s))
+
 pub single : (line : List ℕ) (s : ℕ) → meanOf line s 1 ≡ sampleAt line s
-unfolding meanOf tapSum
-single line s = rw (div-one (0 + sampleAt line (s + 0)), zero-add (sampleAt line (s + 0))) (ap (sampleAt line) (add-zero s))
+unfolding meanOf
+single line s = div-one (tapSum line s 1) ∙ one-tap line s

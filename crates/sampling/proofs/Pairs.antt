@@ -1,5 +1,5 @@
 -- Two samples in the halves of one number: the mask over both, and what a sum of such pairs is.
-use Prim.Native.Nat.{ℕ, _+_, _*_, _/_, _%_, _≤_, _<_}
+use Prim.Native.Nat.{ℕ, _+_, _-_, _*_, _/_, _%_, _<_}
 use mathlib.Core.Path.{_≡_, refl, sym, ap, ap₂, _∙_}
 use native.Mathlib.Omega.{arith}
 use lib.Bits.{bitAnd, and-block, and-mask}
@@ -20,6 +20,9 @@ masked a b g h =
 pub pair-more : (p a b : ℕ) → p % 65536 < 65280 → a < 256 → ((p + (a + 65536 * b)) % 65536 ≡ p % 65536 + a) × ((p + (a + 65536 * b)) / 65536 ≡ p / 65536 + b)
 pair-more p a b l h = (omega arith, omega arith)
 
--- the two halves added
-pub folded : (p : ℕ) → p % 65536 + p / 65536 < 65536 → (p + p / 65536) % 65536 ≡ p % 65536 + p / 65536
-folded p l = omega arith
+-- a pair of which the lower half is taken off again
+pub last-more : (p l a b : ℕ) → l ≡ a + 65536 * b → a < 256 → (p + l - l % 65536) % 65536 + (p + l - l % 65536) / 65536 ≡ p % 65536 + p / 65536 + b
+last-more p l a b e h =
+    let m : l % 65536 ≡ a = omega arith in
+    let q : p + l - l % 65536 ≡ p + 65536 * b = omega arith in
+    rw q (omega arith)

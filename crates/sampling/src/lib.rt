@@ -1,7 +1,7 @@
 // The formats, and the 60 bytes of a line (01, "Video"; 000, 5.2.1 and 5.2.2).
 ghost use mathlib.Core.Path.{_≡_};
 ghost use mathlib.Core.List.{[], _∷_, _++_};
-ghost use Prim.Native.Nat.{_+_, _*_, _≤_, _<_};
+ghost use Prim.Native.Nat.{_+_, _*_, _/_, _%_, _≤_, _<_};
 ghost use lib.ListN.{length, getD, drop};
 ghost use Rattle.sampling.specs.Formats.{named, rowOf};
 ghost use Rattle.sampling.specs.Samples.{sampleAt, tapSum, meanOf, firsts, pixelBy, sampleDone, sampleOut};
@@ -91,7 +91,16 @@ fn tap_pair(line: &[u8], s: usize) -> u32
     (both / 4) & 0x00ff_00ff
 }
 
-// The sum of the n samples from s on: those at even and at odd places in the two halves of one number, and last an odd one out.
+// The two halves of such a number, or of a sum of them, added.
+fn halves(pairs: u32) -> u32
+    requires { ⌜ pairs % 65536 + pairs / 65536 < 65536 ⌝ }
+    ensures { λ r. ⌜ r ≡ pairs % 65536 + pairs / 65536 ⌝ }
+{
+    (pairs + pairs / 65536) % 65536
+}
+
+// The sum of the n samples from s on, two by two. An odd one out comes with the one before it, which is taken off again: a load of its own would be one of two
+// single bytes.
 fn tap_sum(line: &[u8], s: usize, n: usize) -> u32
     requires { ⌜ (2 * (s + n) ≤ length (now line)) × (n ≤ 6) ⌝ }
     ensures { λ r. ⌜ r ≡ tapSum (now (line .entry)) s n ⌝ }
@@ -102,11 +111,14 @@ fn tap_sum(line: &[u8], s: usize, n: usize) -> u32
         pairs += tap_pair(line, s + i);
         i += 2;
     }
-    let sum = (pairs + pairs / 65536) % 65536;
-    if i < n {
-        return sum + tap(line, s + i);
+    if n <= i {
+        return halves(pairs);
     }
-    sum
+    if i == 0 {
+        return tap(line, s);
+    }
+    let last = tap_pair(line, s + i - 1);
+    halves(pairs + last - last % 65536)
 }
 
 // Their mean, rounded down.
