@@ -157,7 +157,7 @@ uint8_t lipsync_sample_line(uint8_t format, const uint8_t *line, size_t length, 
 
 /*
  * Whether a line of a format, counted from 1, is monitored, in either field: false where there is no such format or no such line. Never refuses.
- * A line for which this is false can be left out: no other answer changes.
+ * A session, or a feed for `card`, need not be given a line for which this is false: no other answer changes.
  */
 bool lipsync_is_monitored(uint8_t format, size_t line);
 
