@@ -7,6 +7,7 @@ use native.Mathlib.Omega.{arith}
 use Rattle.sampling.specs.declared.Row.{Row}
 use Rattle.sampling.specs.Formats.{named, rowOf}
 use Rattle.sampling.proofs.Table.{listed, no-row}
+use Rattle.picture.proofs.Judged.{small}
 
 pub record Few (r : Row) : Type 0 where
   pub first1 : r .vstart1 ≤ 2250
@@ -21,11 +22,7 @@ pub few : (f : ℕ) → Few (rowOf f)
 few f =
     elim (decLt f 8) [
       | yes h ↦
-          let r = listed f h in
-          record {
-            first1 = omega (arith, r .last-line1, r .tall);
-            first2 = omega (arith, r .last-line2, r .tall);
-            step = omega (arith, r .last-line1, r .tall);
-          }
+          let r = small (listed f h) in
+          record { first1 = r .first1; first2 = r .first2; step = r .step }
       | no n ↦ subst Few (sym (no-row f (omega arith))) none
     ]
