@@ -37,7 +37,7 @@ impl Format {
         among(self.vstart[0]) || self.vstart[1] != 0 && among(self.vstart[1])
     }
 
-    // A loop for each number of taps, as crates/sampling has it.
+    // A loop for each number of taps.
     fn sample(&self, line: &[u8], out: &mut [u8]) {
         let first = self.hstart - self.before;
         match self.taps {
