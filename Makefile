@@ -29,6 +29,7 @@ bench: ## speed beside plain Rust programs (docs/PERFORMANCE.md)
 	bench/video.sh
 	bench/audio.sh
 	bench/session.sh
+	bench/transport.sh
 
 N ?= 100
 fuzz: ## card beside the second program on N (100) new random feeds of each kind; one on which they differ is kept under target/fuzz/

@@ -1,6 +1,6 @@
 /*
- * The lip-sync card's containers, packets, line sampling and monitored lines, for a host in C or C++ on x86-64 Linux. Link with liblipsync.a or
- * liblipsync.so (`make lib`).
+ * The lip-sync card's containers, ancillary and transport packets, line sampling and monitored lines, for a host in C or C++ on x86-64 Linux. Link with
+ * liblipsync.a or liblipsync.so (`make lib`).
  *
  * Every call but lipsync_is_monitored, which takes two numbers and has no refusals, has the form
  *     uint8_t f(.., const uint8_t *in, size_t length, uint8_t *out, size_t room, size_t *written)
@@ -9,7 +9,7 @@
  * `in` and `out` may be null where their length or room is 0. `written` is never null: a call with a null `written` is an error that no call checks.
  * The bytes read, the buffer written and `written` do not overlap. Calls keep nothing, so they may run at the same time.
  *
- * The five calls are proved to answer as document 01 says, with request A2 of 02. The inline functions of this header are plain C and only tested.
+ * The seven calls are proved to answer as document 01 says, with requests A2 and A5 of 02. The inline functions of this header are plain C and only tested.
  */
 #ifndef LIPSYNC_H
 #define LIPSYNC_H
@@ -27,9 +27,9 @@ extern "C" {
  * and a new PATCH changes neither. While MAJOR is 0 a new MINOR may do what a new MAJOR may: so the shared library's name has both, liblipsync.so.MAJOR.MINOR.
  */
 #define LIPSYNC_VERSION_MAJOR 0
-#define LIPSYNC_VERSION_MINOR 3
+#define LIPSYNC_VERSION_MINOR 4
 #define LIPSYNC_VERSION_PATCH 0
-#define LIPSYNC_VERSION "0.3.0"
+#define LIPSYNC_VERSION "0.4.0"
 
 /* What a call returns. lipsync_meaning() has the words. */
 enum {
@@ -55,7 +55,12 @@ enum {
     LIPSYNC_REFUSED_KIND = 33,
     LIPSYNC_REFUSED_COUNT = 34,
     LIPSYNC_REFUSED_PARITY = 35,
-    LIPSYNC_REFUSED_CHECKSUM = 36
+    LIPSYNC_REFUSED_CHECKSUM = 36,
+
+    LIPSYNC_REFUSED_UNDER_10_BYTES = 40, /* a transport packet's: */
+    LIPSYNC_REFUSED_START_CODE = 41,
+    LIPSYNC_REFUSED_LENGTH = 42,
+    LIPSYNC_REFUSED_CRC = 43
 };
 
 /* Sizes in bytes. */
@@ -63,6 +68,7 @@ enum {
     LIPSYNC_LINE_SIZE = 60,          /* a line sampled */
     LIPSYNC_LARGEST_CONTAINER = 254, /* header 4, ID 21, video 3, audio 225, checksum 1 */
     LIPSYNC_LARGEST_PACKET = 522,    /* the largest container's: 2 x 254 + 14 */
+    LIPSYNC_LARGEST_TRANSPORT = 264, /* the largest container's: 254 + 10 */
     LIPSYNC_FLAT_SIZE = 283          /* a container's contents, flat */
 };
 
@@ -149,6 +155,18 @@ uint8_t lipsync_write_packet(const uint8_t *container, size_t length, uint8_t *o
 uint8_t lipsync_read_packet(const uint8_t *words, size_t length, uint8_t *out, size_t room, size_t *written);
 
 /*
+ * Wraps a container in a packet for an MPEG-2 transport stream: 00 00 01 BF, two bytes of length, the high one first, the container, four bytes of CRC_32.
+ * *written is length + 10. Refusals: 20 to 28, then 12 where room is under length + 10; LIPSYNC_LARGEST_TRANSPORT is always enough.
+ */
+uint8_t lipsync_write_transport(const uint8_t *container, size_t length, uint8_t *out, size_t room, size_t *written);
+
+/*
+ * Takes the container's bytes out of such a packet: *written is their number, length - 10. One byte changed, whichever and to whatever, is refused.
+ * Refusals: 40 to 43, 20 to 28, then 12 where room is under that number; LIPSYNC_LARGEST_CONTAINER is always enough.
+ */
+uint8_t lipsync_read_transport(const uint8_t *packet, size_t length, uint8_t *out, size_t room, size_t *written);
+
+/*
  * Samples one line of a format: *written is LIPSYNC_LINE_SIZE. The line is lent as two bytes for each luma sample, low byte first; bits 15 to 10 are ignored,
  * and a sample counts as its bits 9 to 2, that is, the upper eight of ten. Which line it is plays no part.
  * Refusals: 1 format, 2 length not 2 x width, then 12 where room is under LIPSYNC_LINE_SIZE.
@@ -184,6 +202,10 @@ static inline const char *lipsync_meaning(uint8_t number) {
     case LIPSYNC_REFUSED_COUNT: return "packet's count word's parity, or words not count + 7";
     case LIPSYNC_REFUSED_PARITY: return "packet's user word's parity";
     case LIPSYNC_REFUSED_CHECKSUM: return "packet's checksum";
+    case LIPSYNC_REFUSED_UNDER_10_BYTES: return "transport packet under 10 bytes";
+    case LIPSYNC_REFUSED_START_CODE: return "transport packet's start code";
+    case LIPSYNC_REFUSED_LENGTH: return "transport packet's length";
+    case LIPSYNC_REFUSED_CRC: return "transport packet's CRC";
     default: return "no number of these calls";
     }
 }

@@ -1,5 +1,5 @@
 /*
- * What the host's calls answer, against document 01 with 02's A2: its figures, each refusal, short buffers between guard bytes, which lines are monitored, and
+ * What the host's calls answer, against document 01 with 02's A2 and A5: its figures, each refusal, short buffers between guard bytes, which lines are monitored, and
  * damaged containers and packets from a fixed seed. What is expected is worked out here from these rules, never taken from the library, and said in the header's names,
  * so that a wrong constant is found.
  * Prints the number of checks; the first that fails ends it. With the word `meanings` it only prints what each number means.
@@ -181,6 +181,44 @@ static int judge_packet(const uint8_t *s, size_t size, uint8_t *container, size_
     return judge_container(container, count, flat);
 }
 
+/* ---- 02, A5; 001, 7.2: the transport packet */
+
+/* CRC_32's register after so many bits, the highest of each byte first, which go in one by one: all ones at the start, polynomial 04C11DB7h */
+static uint32_t register_after(const uint8_t *s, size_t n) {
+    uint32_t reg = 0xFFFFFFFF;
+    for (size_t i = 0; i < 8 * n; i++) {
+        unsigned differ = (reg >> 31) ^ (s[i / 8] >> (7 - i % 8) & 1u);
+        reg = reg << 1 ^ (differ ? 0x04C11DB7 : 0);
+    }
+    return reg;
+}
+
+static void seal(uint8_t *s, size_t n) {
+    uint32_t crc = register_after(s, n - 4);
+    for (unsigned i = 0; i < 4; i++) s[n - 4 + i] = (uint8_t)(crc >> (24 - 8 * i));
+}
+
+static size_t stream(const uint8_t *c, size_t n, uint8_t *s) {
+    static const uint8_t start[] = {0x00, 0x00, 0x01, 0xBF};
+    memcpy(s, start, sizeof start);
+    s[4] = (uint8_t)((n + 4) / 256);
+    s[5] = (uint8_t)((n + 4) % 256);
+    memcpy(s + 6, c, n);
+    seal(s, n + 10);
+    return n + 10;
+}
+
+static int judge_transport(const uint8_t *s, size_t size, size_t *n) {
+    uint8_t flat[LIPSYNC_FLAT_SIZE];
+    *n = 0;
+    if (size < 10) return LIPSYNC_REFUSED_UNDER_10_BYTES;
+    if (s[0] != 0x00 || s[1] != 0x00 || s[2] != 0x01 || s[3] != 0xBF) return LIPSYNC_REFUSED_START_CODE;
+    if (size != 6 + 256u * s[4] + s[5]) return LIPSYNC_REFUSED_LENGTH;
+    if (register_after(s, size) != 0) return LIPSYNC_REFUSED_CRC;
+    *n = size - 10;
+    return judge_container(s + 6, *n, flat);
+}
+
 /* ---- calls, each compared with what 01 says, at some room */
 
 static int seen[64];
@@ -231,6 +269,37 @@ static void try_unwrap(const uint8_t *s, size_t n, size_t room) {
     CHECK(holds(container, written));
     if (number == 0) {
         CHECK(lipsync_write_packet(out, written, again, sizeof again, &rewritten) == 0);
+        CHECK(rewritten == n && memcmp(again, s, n) == 0);
+    }
+}
+
+static void try_stream(const uint8_t *s, size_t n, size_t room) {
+    uint8_t flat[LIPSYNC_FLAT_SIZE], packet[2 * MOST];
+    size_t written = 99, size = 0;
+    int expected = judge_container(s, n, flat);
+    if (expected == LIPSYNC_OK) size = stream(s, n, packet);
+    if (expected == LIPSYNC_OK && room < size) expected = LIPSYNC_REFUSED_ROOM;
+    uint8_t *out = lend();
+    int number = lipsync_write_transport(s, n, out, room, &written);
+    seen[number]++;
+    CHECK(number == expected);
+    CHECK(written == (number == 0 ? size : 0));
+    CHECK(holds(packet, written));
+}
+
+static void try_unstream(const uint8_t *s, size_t n, size_t room) {
+    uint8_t again[2 * MOST];
+    size_t written = 99, size, rewritten = 99;
+    int expected = judge_transport(s, n, &size);
+    if (expected == LIPSYNC_OK && room < size) expected = LIPSYNC_REFUSED_ROOM;
+    uint8_t *out = lend();
+    int number = lipsync_read_transport(s, n, out, room, &written);
+    seen[number]++;
+    CHECK(number == expected);
+    CHECK(written == (number == 0 ? size : 0));
+    CHECK(holds(s + 6, written));
+    if (number == 0) {
+        CHECK(lipsync_write_transport(out, written, again, sizeof again, &rewritten) == 0);
         CHECK(rewritten == n && memcmp(again, s, n) == 0);
     }
 }
@@ -498,20 +567,93 @@ static void packet_refusals(void) {
     CHECK(lipsync_read_packet(p, lay(w, 12, p), lend(), MOST, &written) == LIPSYNC_REFUSED_START && untouched());
 }
 
+static int unstream_refused(const uint8_t *s, size_t n, int number) {
+    size_t written = 99;
+    return lipsync_read_transport(s, n, lend(), MOST, &written) == number && written == 0 && untouched();
+}
+
+/* each byte of a packet, changed to each other value, is refused with the number of its field */
+static void one_byte_changed(const uint8_t *c, size_t n) {
+    uint8_t p[2 * MOST];
+    size_t size = stream(c, n, p);
+    try_unstream(p, size, MOST);
+    for (size_t k = 0; k < size; k++) {
+        uint8_t right = p[k];
+        int number = k < 4 ? LIPSYNC_REFUSED_START_CODE : k < 6 ? LIPSYNC_REFUSED_LENGTH : LIPSYNC_REFUSED_CRC;
+        for (unsigned other = 1; other < 256; other++) {
+            p[k] = right ^ (uint8_t)other;
+            CHECK(unstream_refused(p, size, number));
+        }
+        p[k] = right;
+    }
+}
+
+/* the largest length that two bytes count, and one byte more */
+static void longest(void) {
+    static uint8_t s[65543];
+    s[2] = 0x01;
+    s[3] = 0xBF;
+    s[4] = s[5] = 0xFF;
+    seal(s, 65541);
+    CHECK(unstream_refused(s, 65541, LIPSYNC_REFUSED_SIZE)); /* a container of 65,531 zeros: version 0, Length 0 */
+    s[300] ^= 1;
+    CHECK(unstream_refused(s, 65541, LIPSYNC_REFUSED_CRC));
+    CHECK(unstream_refused(s, 65540, LIPSYNC_REFUSED_LENGTH) && unstream_refused(s, 65542, LIPSYNC_REFUSED_LENGTH));
+    s[4] = s[5] = 0;
+    CHECK(unstream_refused(s, 65542, LIPSYNC_REFUSED_LENGTH)); /* 65,536 bytes follow: no length counts them */
+}
+
+static void transport(void) {
+    const uint8_t bare[] = {0x00, 0x00, 0x02, 0x50, 0xAE};
+    const uint8_t packet[] = {0x00, 0x00, 0x01, 0xBF, 0x00, 0x09, 0x00, 0x00, 0x02, 0x50, 0xAE, 0xBE, 0x9D, 0xFC, 0x84};
+    uint8_t s[2 * MOST], c[MOST];
+    size_t written = 99;
+    CHECK(register_after((const uint8_t *)"123456789", 9) == 0x0376E6E7);
+    CHECK(lipsync_write_transport(bare, 5, lend(), MOST, &written) == LIPSYNC_OK && written == 15 && holds(packet, 15));
+    CHECK(lipsync_read_transport(packet, 15, lend(), MOST, &written) == LIPSYNC_OK && written == 5 && holds(bare, 5));
+    CHECK(unstream_refused(NULL, 0, LIPSYNC_REFUSED_UNDER_10_BYTES));
+    for (size_t n = 0; n < 15; n++) CHECK(unstream_refused(packet, n, n < 10 ? LIPSYNC_REFUSED_UNDER_10_BYTES : LIPSYNC_REFUSED_LENGTH));
+    for (size_t n = 0; n < 5; n++) { /* a right packet around too few bytes: 20, and not 40 to 43 */
+        size_t size = stream(bare, n, s);
+        CHECK(unstream_refused(s, size, LIPSYNC_REFUSED_UNDER_5_BYTES));
+    }
+    memcpy(s, packet, 15);
+    s[0] = s[4] = s[14] = s[6] = 1; /* the number furthest left, four times */
+    CHECK(unstream_refused(s, 9, LIPSYNC_REFUSED_UNDER_10_BYTES) && unstream_refused(s, 15, LIPSYNC_REFUSED_START_CODE));
+    s[0] = 0;
+    CHECK(unstream_refused(s, 15, LIPSYNC_REFUSED_LENGTH));
+    s[4] = 0;
+    CHECK(unstream_refused(s, 15, LIPSYNC_REFUSED_CRC));
+    seal(s, 15);
+    CHECK(unstream_refused(s, 15, LIPSYNC_REFUSED_VERSION));
+    one_byte_changed(bare, 5);
+    size_t n = full(LIPSYNC_RATE_25, c);
+    CHECK(n == LIPSYNC_LARGEST_CONTAINER);
+    one_byte_changed(c, n);
+    try_stream(c, n, LIPSYNC_LARGEST_TRANSPORT);
+    try_stream(c, n, LIPSYNC_LARGEST_TRANSPORT - 1);
+    CHECK(lipsync_write_transport(c, n, lend(), LIPSYNC_LARGEST_TRANSPORT, &written) == LIPSYNC_OK && written == LIPSYNC_LARGEST_TRANSPORT);
+    longest();
+}
+
 static void rooms(void) {
     const uint8_t bare[] = {0x00, 0x00, 0x02, 0x50, 0xAE};
     unsigned words[12];
-    uint8_t p[24];
+    uint8_t p[24], q[15];
     size_t written;
     for (size_t room = 0; room < 300; room++) {
         try_container(bare, 5, room);
         try_wrap(bare, 5, room);
         try_unwrap(p, lay(words, wrap(bare, 5, words), p), room);
+        try_stream(bare, 5, room);
+        try_unstream(q, stream(bare, 5, q), room);
     }
     count = 99;
     CHECK(lipsync_read_container(bare, 5, NULL, 0, &count) == LIPSYNC_REFUSED_ROOM && count == 0);
     CHECK(lipsync_write_packet(bare, 5, NULL, 0, &written) == LIPSYNC_REFUSED_ROOM && written == 0);
     CHECK(lipsync_read_packet(p, 24, NULL, 0, &written) == LIPSYNC_REFUSED_ROOM && written == 0);
+    CHECK(lipsync_write_transport(bare, 5, NULL, 0, &written) == LIPSYNC_REFUSED_ROOM && written == 0);
+    CHECK(lipsync_read_transport(q, 15, NULL, 0, &written) == LIPSYNC_REFUSED_ROOM && written == 0);
 }
 
 /* ---- 01, Video: width, lines, HStart, HStep, the taps before and after a pixel, VStart of both fields, VStep */
@@ -607,6 +749,21 @@ static void meanings(void) {
 
 /* ---- damage, from the fixed seed */
 
+static void damaged_transport(const uint8_t *c, size_t n, size_t room) {
+    uint8_t s[2 * MOST];
+    size_t size = stream(c, n, s);
+    switch (below(7)) {
+    case 0: s[below((uint32_t)size)] ^= (uint8_t)(1u << below(8)); break;
+    case 1: s[below(6)] = (uint8_t)below(256); break;
+    case 2: s[below(10)] = (uint8_t)below(256); seal(s, size); break;
+    case 3: size -= below((uint32_t)size); break;
+    case 4: s[size++] = (uint8_t)below(256); break;
+    case 5: memmove(s + 6, s + 7, size - 7); s[5]--; seal(s, --size); break; /* a byte of the container lost */
+    default: break;
+    }
+    try_unstream(s, size, room);
+}
+
 static void damage(void) {
     uint8_t s[MOST], p[2 * MOST];
     unsigned w[MOST];
@@ -616,10 +773,13 @@ static void damage(void) {
         if (turn % 4 == 0) {
             try_container(s, n, room);
             try_wrap(s, n, room);
+            try_stream(s, n, room);
         }
         if (turn % 4) n = damaged(s, n);
         try_container(s, n, room);
         try_wrap(s, n, room);
+        try_stream(s, n, room);
+        damaged_transport(s, n, room);
         size_t words = wrap(s, n, w), size;
         switch (below(6)) {
         case 0: w[below((uint32_t)words)] ^= 1u << below(10); break;
@@ -633,8 +793,8 @@ static void damage(void) {
         if (below(20) == 0 && size) size--;
         try_unwrap(p, size, room);
     }
-    for (int number = 20; number <= 36; number++)
-        if (number != 29) CHECK(seen[number] > 50);
+    for (int number = 20; number <= 43; number++)
+        if (number != 29 && (number <= 36 || number >= 40)) CHECK(seen[number] > 50);
     CHECK(seen[LIPSYNC_OK] > 10000 && seen[LIPSYNC_REFUSED_ROOM] > 1000);
 }
 
@@ -648,6 +808,7 @@ int main(int many, char **words) {
     byte_counts();
     container_refusals();
     packet_refusals();
+    transport();
     rooms();
     lines();
     monitored();

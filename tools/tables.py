@@ -68,7 +68,7 @@ MIXES = {1: Mix(1, "mono", 1, "mono"), 2: Mix(2, "stereo", 2, "stereo"), 5: Mix(
 # 01, Audio; 02, A9.
 RULES = {1: "down, towards minus infinity", 2: "towards zero"}
 
-# 01, "What a caller is told", as 02's A3 (14), A7 and A9 (1) leave it.
+# 01, "What a caller is told", as 02's A3 (14), A5 (40 to 43), A7 and A9 (1) leave it.
 REFUSALS = {
     1: "format, rate pairing, mixing rule, fingerprint count or mix type not listed, or a session that is not set up",
     2: "line length not 2 x width",
@@ -99,10 +99,14 @@ REFUSALS = {
     34: "packet's count word's parity, or words not count + 7",
     35: "packet's user word's parity",
     36: "packet's checksum",
+    40: "transport packet under 10 bytes",
+    41: "transport packet's start code",
+    42: "transport packet's length",
+    43: "transport packet's CRC",
 }
 
 READING = tuple(range(20, 29))
-# 01, "What a caller is told", as 02's A3 (instant) and A7 (pack, write) leave it: the numbers of each call as the feed names it, 0 for success.
+# 01, "What a caller is told", as 02's A3 (instant), A5 (stream, unstream) and A7 (pack, write) leave it: the numbers of each call as the feed names it, 0 for success.
 NUMBERS = {
     "setup": (0, 1),
     "line": (0, 1, 2, 3, 4, 5),
@@ -115,6 +119,8 @@ NUMBERS = {
     "wrap": (0, *READING, 12),
     "unwrap": (0, *range(30, 37), *READING, 12),
     "write": (0, 29, 12),
+    "stream": (0, *READING, 12),
+    "unstream": (0, *range(40, 44), *READING, 12),
 }
 
 

@@ -18,6 +18,9 @@ mod inspect;
 mod make;
 mod packet;
 mod session;
+mod transport;
+#[cfg(test)]
+mod transport_tests;
 #[cfg(test)]
 mod two_rules;
 mod video;

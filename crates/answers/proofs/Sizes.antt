@@ -46,7 +46,7 @@ line-size : (n : ℕ) (told : Told) → length (lineLine n told) ≤ 111
 unfolding lineLine
 line-size n told = omega (arith, length-append (item line n ++ toldText told) newline, length-append (item line n) (toldText told), item-size line n, told-size told)
 
-word-size : (hand : Hand) → length (handWord hand) ≤ 8
+word-size : (hand : Hand) → length (handWord hand) ≤ 9
 unfolding handWord
 word-size hand = let h = hand-within hand in omega (arith, length-take-le (handSize hand) (handRow hand) (h .0))
 

@@ -11,7 +11,7 @@ use Rattle.text.specs.Lines.{item, space, newline}
 use Rattle.picture.specs.declared.Told.{Told}
 use Rattle.picture.specs.declared.Told.the-variants.{Open, Nothing, Value}
 use Rattle.answers.specs.declared.Hand.{Hand}
-use Rattle.answers.specs.declared.Hand.the-variants.{Pack, Sample, Rewrite, Wrap, Unwrap, Write}
+use Rattle.answers.specs.declared.Hand.the-variants.{Pack, Sample, Rewrite, Wrap, Unwrap, Write, Stream, Unstream}
 use Rattle.answers.specs.declared.Answer.{Answer}
 use Rattle.answers.specs.declared.Answer.the-variants.{Setup, Line, Sound, Instant, VideoRestart, AudioRestart, Handed, Reported, Bad, Finished}
 use Rattle.answers.specs.Words.{setup, line, sound, instant, field, brighter, darker, fieldNone, videoRestart, audioRestart, spilled, bad}
@@ -35,12 +35,14 @@ lineLine number told = item line number ++ toldText told ++ newline
 
 -- the word of a call with a room: a row filled up with spaces, and how much of it the word is
 abbrev pub handRow : Hand → List ℕ
-handRow Pack = 112 ∷ 97 ∷ 99 ∷ 107 ∷ 32 ∷ 32 ∷ 32 ∷ 32 ∷ []
-handRow Sample = 115 ∷ 97 ∷ 109 ∷ 112 ∷ 108 ∷ 101 ∷ 32 ∷ 32 ∷ []
-handRow Rewrite = 114 ∷ 101 ∷ 119 ∷ 114 ∷ 105 ∷ 116 ∷ 101 ∷ 32 ∷ []
-handRow Wrap = 119 ∷ 114 ∷ 97 ∷ 112 ∷ 32 ∷ 32 ∷ 32 ∷ 32 ∷ []
-handRow Unwrap = 117 ∷ 110 ∷ 119 ∷ 114 ∷ 97 ∷ 112 ∷ 32 ∷ 32 ∷ []
-handRow Write = 119 ∷ 114 ∷ 105 ∷ 116 ∷ 101 ∷ 32 ∷ 32 ∷ 32 ∷ []
+handRow Pack = 112 ∷ 97 ∷ 99 ∷ 107 ∷ 32 ∷ 32 ∷ 32 ∷ 32 ∷ 32 ∷ []
+handRow Sample = 115 ∷ 97 ∷ 109 ∷ 112 ∷ 108 ∷ 101 ∷ 32 ∷ 32 ∷ 32 ∷ []
+handRow Rewrite = 114 ∷ 101 ∷ 119 ∷ 114 ∷ 105 ∷ 116 ∷ 101 ∷ 32 ∷ 32 ∷ []
+handRow Wrap = 119 ∷ 114 ∷ 97 ∷ 112 ∷ 32 ∷ 32 ∷ 32 ∷ 32 ∷ 32 ∷ []
+handRow Unwrap = 117 ∷ 110 ∷ 119 ∷ 114 ∷ 97 ∷ 112 ∷ 32 ∷ 32 ∷ 32 ∷ []
+handRow Write = 119 ∷ 114 ∷ 105 ∷ 116 ∷ 101 ∷ 32 ∷ 32 ∷ 32 ∷ 32 ∷ []
+handRow Stream = 115 ∷ 116 ∷ 114 ∷ 101 ∷ 97 ∷ 109 ∷ 32 ∷ 32 ∷ 32 ∷ []
+handRow Unstream = 117 ∷ 110 ∷ 115 ∷ 116 ∷ 114 ∷ 101 ∷ 97 ∷ 109 ∷ 32 ∷ []
 
 abbrev pub handSize : Hand → ℕ
 handSize Pack = 5
@@ -49,6 +51,8 @@ handSize Rewrite = 8
 handSize Wrap = 5
 handSize Unwrap = 7
 handSize Write = 6
+handSize Stream = 7
+handSize Unstream = 9
 
 unfoldable pub handWord : Hand → List ℕ
 handWord hand = take (handSize hand) (handRow hand)

@@ -26,6 +26,8 @@ pub enum Hand {
     Wrap,
     Unwrap,
     Write,
+    Stream,
+    Unstream,
 }
 
 // What the call of a record answers. Bytes that it hands out lie at the front of the work buffer.

@@ -50,16 +50,18 @@ fn say_line(number: u8, told: Told, out: &mut [u8]) -> usize
 }
 
 // The word of a call, filled up with spaces.
-fn hand_row(hand: Hand) -> [u8; 8]
+fn hand_row(hand: Hand) -> [u8; 9]
     ensures { λ r. ⌜ r ≡ handRow hand ⌝ }
 {
     match hand {
-        Hand::Pack => *b"pack    ",
-        Hand::Sample => *b"sample  ",
-        Hand::Rewrite => *b"rewrite ",
-        Hand::Wrap => *b"wrap    ",
-        Hand::Unwrap => *b"unwrap  ",
-        Hand::Write => *b"write   ",
+        Hand::Pack => *b"pack     ",
+        Hand::Sample => *b"sample   ",
+        Hand::Rewrite => *b"rewrite  ",
+        Hand::Wrap => *b"wrap     ",
+        Hand::Unwrap => *b"unwrap   ",
+        Hand::Write => *b"write    ",
+        Hand::Stream => *b"stream   ",
+        Hand::Unstream => *b"unstream ",
     }
 }
 
@@ -73,6 +75,8 @@ fn hand_size(hand: Hand) -> usize
         Hand::Wrap => 5,
         Hand::Unwrap => 7,
         Hand::Write => 6,
+        Hand::Stream => 7,
+        Hand::Unstream => 9,
     }
 }
 

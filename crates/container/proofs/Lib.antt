@@ -1,5 +1,6 @@
 pub mod Parts
 pub mod Runs
+pub mod Passing
 pub mod Readable
 pub mod Bytes
 pub mod Outcome

@@ -9,6 +9,7 @@ ghost use Rattle.container.specs.Writing.{writeDone, writeOut};
 use laws::Done;
 use laws::Video;
 
+mod pass;
 mod read;
 mod valid;
 mod write;
@@ -61,6 +62,12 @@ pub struct AudioPart {
     pub used: usize,
     pub count: u8,
     pub prints: [Print; 32],
+}
+
+// A part that is passed over: whether it is right, and how many bytes it takes.
+pub struct Span {
+    pub ok: bool,
+    pub used: usize,
 }
 
 // A place for a fingerprint that is not used: "unused places are zero".
@@ -131,6 +138,18 @@ pub fn read_container(bytes: &[u8]) -> Reading
     }
     let end = bytes.len() - 1;
     read::read_parts(bytes[1], bytes[3], &bytes[4..end])
+}
+
+// The number alone that Read container answers: 20 to 28, or 0.
+pub fn container_number(bytes: &[u8]) -> u8
+    ensures { λ r. ⌜ r ≡ reading (now (bytes .entry)) .number ⌝ }
+{
+    let number = read::header_number(bytes);
+    if number != 0 {
+        return number;
+    }
+    let end = bytes.len() - 1;
+    pass::parts_number(bytes[3], &bytes[4..end])
 }
 
 // Write: 29, 12.

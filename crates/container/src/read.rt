@@ -13,6 +13,7 @@ use crate::Reading;
 use crate::VideoPart;
 use crate::blank_print;
 use crate::empty_contents;
+use crate::pass::print_size;
 use laws::Video;
 
 // The first of 20 to 24 that applies, or 0.
@@ -42,7 +43,7 @@ pub(crate) fn header_number(s: &[u8]) -> u8
     0
 }
 
-fn read_id(flag: u8, b: &[u8]) -> IdPart
+pub(crate) fn read_id(flag: u8, b: &[u8]) -> IdPart
     ensures { λ r. ⌜ r ≡ idPart flag (now (b .entry)) ⌝ }
 {
     let mut id = [0u8; 20];
@@ -121,7 +122,7 @@ fn both_fields(rate: u8, b: &[u8]) -> VideoPart
     }
 }
 
-fn read_video(flag: u8, rate: u8, b: &[u8]) -> VideoPart
+pub(crate) fn read_video(flag: u8, rate: u8, b: &[u8]) -> VideoPart
     ensures { λ r. ⌜ r ≡ videoPart flag rate (now (b .entry)) ⌝ }
 {
     if flag == 0 {
@@ -158,23 +159,8 @@ fn no_print() -> PrintPart
 fn read_print(rate: u8, b: &[u8]) -> PrintPart
     ensures { λ r. ⌜ r ≡ printPart rate (now (b .entry)) ⌝ }
 {
-    if b.len() < 2 {
-        return no_print();
-    }
-    let name = b[0];
-    let counted = b[1];
-    if !rates::mix_listed(name % 8) {
-        return no_print();
-    }
-    if counted % 8 != 0 {
-        return no_print();
-    }
-    let size = counted / 8;
-    if !rates::count_occurs(rate, size) {
-        return no_print();
-    }
-    let end = size as usize + 2;
-    if b.len() < end {
+    let end = print_size(rate, b);
+    if end == 0 {
         return no_print();
     }
     let mut bytes = [0u8; 5];
@@ -183,9 +169,9 @@ fn read_print(rate: u8, b: &[u8]) -> PrintPart
         ok: true,
         used: end,
         print: Print {
-            id: name / 8,
-            mix: name % 8,
-            size,
+            id: b[0] / 8,
+            mix: b[0] % 8,
+            size: b[1] / 8,
             bytes,
         },
     }

@@ -15,6 +15,8 @@ use Rattle.container.specs.Reading.{reading}
 use Rattle.container.specs.Writing.{writeNumber, writeDone, writeOut}
 use Rattle.packet.specs.Writing as packet
 use Rattle.packet.specs.Reading as packets
+use Rattle.transport.specs.Writing as transport
+use Rattle.transport.specs.Reading as transports
 use Rattle.host.specs.Host as host
 use Rattle.session.specs.declared.Session.{Session}
 use Rattle.session.specs.Session.{emptySession, setupOf}
@@ -69,6 +71,17 @@ pub refused-packet-read : (s out : List ℕ) → (packets.readDone s (length out
 unfolding packets.readDone packets.readOut doneWith
 refused-packet-read s out h = refusals.nothing-written (packets.readNumber s (length out)) (packets.userBytes s) out h
 
+-- And of both calls of transport packets (02, A5).
+pub refused-transport-write : (c out : List ℕ) → (transport.writeDone c (length out) .number ≡ 0 → ⊥)
+    → (transport.writeDone c (length out) .written ≡ 0) × (transport.writeOut c out ≡ out)
+unfolding transport.writeDone transport.writeOut doneWith
+refused-transport-write c out h = refusals.nothing-written (transport.writeNumber c (length out)) (transport.transportBytes c) out h
+
+pub refused-transport-read : (s out : List ℕ) → (transports.readDone s (length out) .number ≡ 0 → ⊥)
+    → (transports.readDone s (length out) .written ≡ 0) × (transports.readOut s out ≡ out)
+unfolding transports.readDone transports.readOut doneWith
+refused-transport-read s out h = refusals.nothing-written (transports.readNumber s (length out)) (transports.containerBytes s) out h
+
 -- And of Read container as the host calls it, its contents flat.
 pub refused-flat-reading : (s out : List ℕ) → (host.readDone s (length out) .number ≡ 0 → ⊥)
     → (host.readDone s (length out) .written ≡ 0) × (host.readOut s out ≡ out)
@@ -79,7 +92,7 @@ refused-flat-reading s out h = refusals.nothing-written (host.readNumber s (leng
 pub no-others : (s : Session) (c : Call) → drop (answerOf s c .written) (answerOf s c .out) ≡ drop (answerOf s c .written) (lent c)
 no-others s c = refusals.no-others-after s c
 
--- and of Write, line sampling, both packet calls and the host's reading
+-- and of Write, line sampling, both packet calls, both of transport packets and the host's reading
 pub write-no-others : (c : Contents) (out : List ℕ) → drop (writeDone c (length out) .written) (writeOut c out) ≡ drop (writeDone c (length out) .written) out
 unfolding writeDone writeOut
 write-no-others c out = refusals.no-others (writeNumber c (length out)) (encode c) out
@@ -98,6 +111,16 @@ pub packet-read-no-others : (s out : List ℕ)
     → drop (packets.readDone s (length out) .written) (packets.readOut s out) ≡ drop (packets.readDone s (length out) .written) out
 unfolding packets.readDone packets.readOut
 packet-read-no-others s out = refusals.no-others (packets.readNumber s (length out)) (packets.userBytes s) out
+
+pub transport-write-no-others : (c out : List ℕ)
+    → drop (transport.writeDone c (length out) .written) (transport.writeOut c out) ≡ drop (transport.writeDone c (length out) .written) out
+unfolding transport.writeDone transport.writeOut
+transport-write-no-others c out = refusals.no-others (transport.writeNumber c (length out)) (transport.transportBytes c) out
+
+pub transport-read-no-others : (s out : List ℕ)
+    → drop (transports.readDone s (length out) .written) (transports.readOut s out) ≡ drop (transports.readDone s (length out) .written) out
+unfolding transports.readDone transports.readOut
+transport-read-no-others s out = refusals.no-others (transports.readNumber s (length out)) (transports.containerBytes s) out
 
 pub flat-reading-no-others : (s out : List ℕ)
     → drop (host.readDone s (length out) .written) (host.readOut s out) ≡ drop (host.readDone s (length out) .written) out

@@ -17,6 +17,10 @@ use Rattle.packet.specs.Reading as read
 use Rattle.packet.specs.Writing as write
 use Rattle.packet_laws.specs.Handed.{wrapped, unwrapped}
 use Rattle.packet_laws.proofs.Packet as packet
+use Rattle.transport.specs.Reading as unstream
+use Rattle.transport.specs.Writing as stream
+use Rattle.transport_laws.specs.Handed.{streamed, unstreamed}
+use Rattle.transport_laws.proofs.Transport as transport
 use Rattle.session.specs.declared.Settings.{Settings}
 use Rattle.session.specs.declared.Session.{Session}
 use Rattle.session.specs.Session.{setupOf}
@@ -81,3 +85,14 @@ pub packet-read-back : (c out back : List ℕ) → Bytes c → write.writeDone c
     → (read.readDone (wrapped c out) (length back) ≡ record { number = 0; written = length c })
     × (read.readOut (wrapped c out) back ≡ over c back)
 packet-read-back c out back b e l = packet.read-back c out back b e l
+
+-- and of transport packets: "An accepted packet rewrites to itself, and a written one reads back" (02, A5)
+pub transport-rewritten : (s out again : List ℕ) → Bytes s → unstream.readDone s (length out) .number ≡ 0 → length s ≤ length again
+    → (stream.writeDone (unstreamed s out) (length again) ≡ record { number = 0; written = length s })
+    × (stream.writeOut (unstreamed s out) again ≡ over s again)
+transport-rewritten s out again b e l = transport.rewritten s out again b e l
+
+pub transport-read-back : (c out back : List ℕ) → Bytes c → stream.writeDone c (length out) .number ≡ 0 → length c ≤ length back
+    → (unstream.readDone (streamed c out) (length back) ≡ record { number = 0; written = length c })
+    × (unstream.readOut (streamed c out) back ≡ over c back)
+transport-read-back c out back b e l = transport.read-back c out back b e l

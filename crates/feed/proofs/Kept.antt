@@ -20,6 +20,8 @@ use Rattle.container.specs.Reading.{reading}
 use Rattle.container.specs.Writing as container
 use Rattle.packet.specs.Writing as packet
 use Rattle.packet.specs.Reading as unpacket
+use Rattle.transport.specs.Writing as stream
+use Rattle.transport.specs.Reading as unstream
 use Rattle.container.specs.Writing.{writeDone, writeOut}
 use Rattle.session.specs.declared.Session.{Session}
 use Rattle.session.specs.declared.Packed.{Packed}
@@ -34,7 +36,7 @@ use Rattle.records.specs.Records.{byteAt, recordAt}
 use Rattle.answers.specs.declared.Cause.{Cause}
 use Rattle.answers.specs.declared.Cause.the-variants.{UnknownTag, CutShort}
 use Rattle.answers.specs.declared.Hand.{Hand}
-use Rattle.answers.specs.declared.Hand.the-variants.{Pack, Sample, Rewrite, Wrap, Unwrap, Write}
+use Rattle.answers.specs.declared.Hand.the-variants.{Pack, Sample, Rewrite, Wrap, Unwrap, Write, Stream, Unstream}
 use Rattle.feed.specs.declared.Room.{Room}
 use Rattle.feed.specs.declared.Room.the-variants.{Of, Not}
 use Rattle.feed.specs.declared.Brought.{Brought}
@@ -91,6 +93,14 @@ wrap-kept bytes lent = call-kept (reading bytes .number) (packet.packetBytes byt
 pub unwrap-kept : (words lent : List ℕ) → Kept lent (unpacket.readDone words (length lent) .written) (unpacket.readOut words lent)
 unfolding unpacket.readDone unpacket.readOut unpacket.readNumber
 unwrap-kept words lent = call-kept (unpacket.innerNumber words) (unpacket.userBytes words) lent
+
+pub stream-kept : (bytes lent : List ℕ) → Kept lent (stream.writeDone bytes (length lent) .written) (stream.writeOut bytes lent)
+unfolding stream.writeDone stream.writeOut stream.writeNumber
+stream-kept bytes lent = call-kept (reading bytes .number) (stream.transportBytes bytes) lent
+
+pub unstream-kept : (bytes lent : List ℕ) → Kept lent (unstream.readDone bytes (length lent) .written) (unstream.readOut bytes lent)
+unfolding unstream.readDone unstream.readOut unstream.readNumber
+unstream-kept bytes lent = call-kept (unstream.innerNumber bytes) (unstream.containerBytes bytes) lent
 
 pub rewrite-kept : (bytes lent : List ℕ) → Kept lent (rewriteDone bytes (length lent) .written) (rewriteOut bytes lent)
 unfolding rewriteDone rewriteOut
@@ -174,7 +184,9 @@ lent-in tag rest room =
     (λ _. chosen P (eqb tag 0x23) _ _ (λ _. handed-in Wrap _ room _ (wrap-kept rest lent))
     (λ _. chosen P (eqb tag 0x24) _ _ (λ _. handed-in Unwrap _ room _ (unwrap-kept rest lent))
     (λ _. chosen P (eqb tag 0x25) _ _ (λ _. chosen P (unflat rest .ok) _ _ (λ _. handed-in Write _ room _ (write-kept (unflat rest .contents) lent)) (λ _. bad-in _ room))
-    (λ _. bad-in _ room))))
+    (λ _. chosen P (eqb tag 0x26) _ _ (λ _. handed-in Stream _ room _ (stream-kept rest lent))
+    (λ _. chosen P (eqb tag 0x27) _ _ (λ _. handed-in Unstream _ room _ (unstream-kept rest lent))
+    (λ _. bad-in _ room))))))
 
 -- ---- every record
 
@@ -210,7 +222,7 @@ unfolding aloneFed sampleFed readFed roomFed Quiet
 alone-held tag p =
     chosen HeldReply (eqb tag 0x20) _ _ (λ _. sample-held p (roomAt p 1) refl)
     (λ _. chosen HeldReply (eqb tag 0x21) _ _ (λ _. held-work (Reported (length (reported (reading p)))) (reported (reading p)) (omega (arith, reported-size (reading p))) (omega arith))
-    (λ _. chosen HeldReply (ltb 0x25 tag) _ _ (λ _. bad-held (UnknownTag tag))
+    (λ _. chosen HeldReply (ltb 0x27 tag) _ _ (λ _. bad-held (UnknownTag tag))
     (λ _. room-held tag p (roomAt p 0) refl)))
 
 pack-held : (s : Session) (p : List ℕ) (r : Room) → roomAt p 0 ≡ r → HeldStep (packIn s p r)

@@ -1,4 +1,4 @@
-// The calls that touch no session: tags 20h to 25h. A call with a room is lent the first bytes of the work buffer.
+// The calls that touch no session: tags 20h to 27h. A call with a room is lent the first bytes of the work buffer.
 ghost use mathlib.Core.Path.{_≡_};
 ghost use Prim.Native.Nat.{_≤_};
 ghost use lib.ListN.{length};
@@ -114,6 +114,14 @@ fn lend(tag: u8, rest: &[u8], lent: &mut [u8]) -> Answer
     if tag == 0x25 {
         return write(rest, lent);
     }
+    if tag == 0x26 {
+        let done = transport::write_transport(rest, lent);
+        return Answer::Handed(Hand::Stream, done);
+    }
+    if tag == 0x27 {
+        let done = transport::read_transport(rest, lent);
+        return Answer::Handed(Hand::Unstream, done);
+    }
     Answer::Bad(Cause::UnknownTag(tag))
 }
 
@@ -138,7 +146,7 @@ pub(crate) fn alone(tag: u8, payload: &[u8], work: &mut [u8]) -> Answer
     if tag == 0x21 {
         return read(payload, work);
     }
-    if 0x25 < tag {
+    if 0x27 < tag {
         return Answer::Bad(Cause::UnknownTag(tag));
     }
     in_room(tag, payload, work)

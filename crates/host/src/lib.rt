@@ -3,6 +3,8 @@ ghost use mathlib.Core.Path.{_≡_};
 ghost use lib.ListN.{length};
 ghost use Rattle.packet.specs.Writing.{writeDone, writeOut};
 ghost use Rattle.packet.specs.Reading as packet;
+ghost use Rattle.transport.specs.Writing as transportWriting;
+ghost use Rattle.transport.specs.Reading as transportReading;
 ghost use Rattle.sampling.specs.Samples.{sampleDone, sampleOut};
 ghost use Rattle.picture.specs.Lines.{isMonitored};
 ghost use Rattle.host.specs.Host.{readDone, readOut};
@@ -64,6 +66,34 @@ pub extern "C" fn lipsync_read_packet(words: &[u8], out: &mut [u8], written: &mu
     ensures { λ _. ⌜ now (written .exit) ≡ packet.readDone (now (words .entry)) (length (now (out .entry))) .written ⌝ }
 {
     let d = packet::read_packet(words, out);
+    *written = d.written;
+    d.number
+}
+
+// Write transport packet: 20 to 28, 12.
+#[no_mangle]
+pub extern "C" fn lipsync_write_transport(
+    container: &[u8],
+    out: &mut [u8],
+    written: &mut usize,
+) -> u8
+    ensures { λ r. ⌜ r ≡ transportWriting.writeDone (now (container .entry)) (length (now (out .entry))) .number ⌝ }
+    ensures { λ _. ⌜ now (out .exit) ≡ transportWriting.writeOut (now (container .entry)) (now (out .entry)) ⌝ }
+    ensures { λ _. ⌜ now (written .exit) ≡ transportWriting.writeDone (now (container .entry)) (length (now (out .entry))) .written ⌝ }
+{
+    let d = transport::write_transport(container, out);
+    *written = d.written;
+    d.number
+}
+
+// Read transport packet: 40 to 43, 20 to 28, 12.
+#[no_mangle]
+pub extern "C" fn lipsync_read_transport(bytes: &[u8], out: &mut [u8], written: &mut usize) -> u8
+    ensures { λ r. ⌜ r ≡ transportReading.readDone (now (bytes .entry)) (length (now (out .entry))) .number ⌝ }
+    ensures { λ _. ⌜ now (out .exit) ≡ transportReading.readOut (now (bytes .entry)) (now (out .entry)) ⌝ }
+    ensures { λ _. ⌜ now (written .exit) ≡ transportReading.readDone (now (bytes .entry)) (length (now (out .entry))) .written ⌝ }
+{
+    let d = transport::read_transport(bytes, out);
     *written = d.written;
     d.number
 }

@@ -5,11 +5,11 @@ use mathlib.Core.List.{List}
 use mathlib.Core.Bool.{Bool, true, false, cond}
 use native.Mathlib.Omega.{arith}
 use borrow.Author.Tests.{lt-ltb, le-ltb, eq-eqb, ne-eqb, eqb-true, eqb-false, ltb-false}
-use lib.ListN.{length, take, drop}
+use lib.ListN.{length, drop}
 use lib.Seq.{take-append-seam}
 use lib.Dec.{eqb, ltb}
 use Rattle.laws.specs.declared.Done.{Done}
-use Rattle.laws.specs.Calls.{over, roomNumber, doneWith, outWith}
+use Rattle.laws.specs.Calls.{over, roomNumber, doneWith, outWith, handedOut}
 
 abbrev pub done : ℕ → ℕ → Done
 done number written = record { number = number; written = written }
@@ -43,6 +43,6 @@ told-zero number bytes room e = go (eqb number 0) (ltb room (length bytes)) refl
     go false u p q h = absurd (eqb-false number 0 p h)
 
 -- the bytes counted as written are the bytes handed out
-pub handed : (number : ℕ) (bytes out : List ℕ) → number ≡ 0 → take (doneWith number bytes .written) (outWith number bytes out) ≡ bytes
+pub handed : (number : ℕ) (bytes out : List ℕ) → number ≡ 0 → handedOut (doneWith number bytes) (outWith number bytes out) ≡ bytes
 unfolding doneWith outWith over
 handed number bytes out e = rw (eq-eqb number 0 e) (take-append-seam bytes (drop (length bytes) out))

@@ -6,3 +6,4 @@ pub mod Bytes
 pub mod Calls
 pub mod Once
 pub mod Unique
+pub mod Layers

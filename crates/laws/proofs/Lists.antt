@@ -7,8 +7,8 @@ use mathlib.Core.List.{List, [], _∷_, _++_}
 use native.Mathlib.Omega.{arith}
 use native.Mathlib.Numerals.{add-one}
 use native.Mathlib.Nat.{add-zero, add-suc, suc-add, zero-add, not-suc-le-zero, le-of-suc-le-suc}
-use lib.ListN.{length, getD, drop, set, replicate}
-use lib.Seq.{sets, sets-eq, set-out, drop-cons}
+use lib.ListN.{length, getD, take, drop, set, replicate}
+use lib.Seq.{sets, sets-eq, set-out, drop-cons, take-at}
 use lib.Dec.{eqb}
 use borrow.Author.Tests.{eqb-true, eq-eqb}
 use Rattle.laws.specs.Calls.{over}
@@ -44,6 +44,11 @@ pub sets-over : (bytes out : List ℕ) → length bytes ≤ length out → sets 
 unfolding over
 sets-over bytes out h = sets-eq bytes out 0 (omega arith) ∙ simp zero-add
 
+-- and are at the front
+pub stored-front : (bytes out : List ℕ) (n : ℕ) → length bytes ≡ n → n ≤ length out → take n (sets out 0 bytes) ≡ bytes
+unfolding over
+stored-front bytes out n e h = rw (sets-over bytes out (omega arith)) (take-at bytes _ n e)
+
 -- zeros behind a list are what stands there by default
 pub getD-zeros : (m i : ℕ) → _≡_ {A = ℕ} (getD (replicate m 0) i 0) 0
 getD-zeros zero i = refl
@@ -54,6 +59,17 @@ pub getD-padded : (l : List ℕ) (m i : ℕ) → getD (l ++ replicate m 0) i 0 �
 getD-padded [] m i = getD-zeros m i
 getD-padded (x ∷ l) m zero = refl
 getD-padded (x ∷ l) m (suc i) = getD-padded l m i
+
+-- a list of six or more by its first six
+pub first-six : (l : List ℕ) → 6 ≤ length l
+    → l ≡ getD l 0 0 ∷ getD l 1 0 ∷ getD l 2 0 ∷ getD l 3 0 ∷ getD l 4 0 ∷ getD l 5 0 ∷ drop 6 l
+first-six (a ∷ b ∷ c ∷ d ∷ e ∷ f ∷ l) h = refl
+first-six [] h = absurd (let z : ⊥ = omega arith in z)
+first-six (a ∷ []) h = absurd (let z : ⊥ = omega arith in z)
+first-six (a ∷ b ∷ []) h = absurd (let z : ⊥ = omega arith in z)
+first-six (a ∷ b ∷ c ∷ []) h = absurd (let z : ⊥ = omega arith in z)
+first-six (a ∷ b ∷ c ∷ d ∷ []) h = absurd (let z : ⊥ = omega arith in z)
+first-six (a ∷ b ∷ c ∷ d ∷ e ∷ []) h = absurd (let z : ⊥ = omega arith in z)
 
 -- ---- a number that stands in a list
 

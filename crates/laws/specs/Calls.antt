@@ -2,7 +2,7 @@
 use Prim.Native.Nat.{ℕ}
 use mathlib.Core.List.{List, _++_}
 use mathlib.Core.Bool.{Bool, cond}
-use lib.ListN.{length, drop}
+use lib.ListN.{length, take, drop}
 use lib.Dec.{ltb, eqb}
 use Rattle.laws.specs.declared.Done.{Done}
 
@@ -25,3 +25,7 @@ doneWith number bytes = record { number = number; written = cond (eqb number 0) 
 -- the buffer after the call: "lent bytes keep their values" in a refusal
 unfoldable pub outWith : ℕ → List ℕ → List ℕ → List ℕ
 outWith number bytes out = cond (eqb number 0) (over bytes out) out
+
+-- what a call hands out: as many of the first bytes of the buffer that it leaves as it counts as written
+abbrev pub handedOut : Done → List ℕ → List ℕ
+handedOut d left = take (d .written) left

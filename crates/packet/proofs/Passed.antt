@@ -1,16 +1,15 @@
--- What a packet has passed whose own words are right, and the number of its container.
+-- What a packet has passed whose own words are right.
 use Prim.Native.Nat.{ℕ, _+_, _*_, _%_, _<_}
 use mathlib.Core.Path.{_≡_}
 use mathlib.Core.List.{List}
-use mathlib.Core.Bool.{true, cond}
+use mathlib.Core.Bool.{true}
 use native.Mathlib.Omega.{arith}
-use borrow.Author.Tests.{eqb-true, eq-eqb, ne-eqb}
+use borrow.Author.Tests.{eqb-true}
 use lib.Dec.{leb, eqb}
 use lib.ListN.{length, getD, length-take, length-drop, length-map}
 use Rattle.laws.proofs.Tests.{past}
-use Rattle.container.specs.Reading.{reading}
 use Rattle.packet.specs.Words.{low, checkWord, wordsOf}
-use Rattle.packet.specs.Reading.{every, tenBits, parityRight, startRight, namesRight, countOf, userWords, coveredWords, bodyNumber, frameNumber, userBytes, innerNumber}
+use Rattle.packet.specs.Reading.{every, tenBits, parityRight, startRight, namesRight, countOf, userWords, coveredWords, bodyNumber, frameNumber, userBytes}
 use Rattle.packet.proofs.TenBits.{length-wordsOf}
 
 pub record Passed (s : List ℕ) : Type 0 where
@@ -60,12 +59,3 @@ length-users ws h = simp (length-take, length-drop) (omega arith)
 pub length-user-bytes : (s : List ℕ) → frameNumber s ≡ 0 → length (userBytes s) ≡ countOf (wordsOf s)
 unfolding userBytes
 length-user-bytes s h = simp length-map (length-users (wordsOf s) (passed s h .many))
-
--- the packet's own number, where it has one; else its container's
-pub inner-frame : (s : List ℕ) (number : ℕ) → number ≡ frameNumber s → (number ≡ 0 → ⊥) → innerNumber s ≡ number
-unfolding innerNumber
-inner-frame s number e h = rw (← e, ne-eqb _ _ h)
-
-pub inner-container : (s : List ℕ) → frameNumber s ≡ 0 → innerNumber s ≡ reading (userBytes s) .number
-unfolding innerNumber
-inner-container s h = rw (eq-eqb _ _ h)

@@ -104,11 +104,6 @@ user-next c out i h =
     let e : 12 + 2 * suc i ≡ suc (suc (12 + 2 * i)) = omega arith in
     rw (add-one, e, drop-cons c i 0)
 
--- what is stored from the start on is at the front
-pub stored-front : (bytes out : List ℕ) (n : ℕ) → length bytes ≡ n → n ≤ length out → take n (sets out 0 bytes) ≡ bytes
-unfolding over
-stored-front bytes out n e h = rw (sets-over bytes out (omega arith)) (take-at bytes _ n e)
-
 -- ---- the packet in the order in which it is stored
 
 pub length-packet : (c : List ℕ) → length (packetBytes c) ≡ 2 * length c + 14

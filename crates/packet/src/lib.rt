@@ -1,7 +1,6 @@
 // Ancillary packets: a container's bytes in words of ten bits (01, The packet; 001, 5.1; ST 291-1, type 2).
 ghost use mathlib.Core.Path.{_≡_};
 ghost use lib.ListN.{length};
-ghost use Rattle.container.specs.Reading.{reading};
 ghost use Rattle.packet.specs.Writing.{writeDone, writeOut};
 ghost use Rattle.packet.specs.Reading.{readDone, readOut};
 use laws::Done;
@@ -10,19 +9,11 @@ mod read;
 mod words;
 mod write;
 
-// What the container layer says of the bytes: 20 to 28, or 0.
-fn container_number(bytes: &[u8]) -> u8
-    ensures { λ r. ⌜ r ≡ reading (now (bytes .entry)) .number ⌝ }
-{
-    let r = container::read_container(bytes);
-    r.number
-}
-
 // Write packet: 20 to 28, 12.
 pub fn write_packet(container: &[u8], out: &mut [u8]) -> Done
     ensures { λ r. ⌜ (r ≡ writeDone (now (container .entry)) (length (now (out .entry)))) × (now (out .exit) ≡ writeOut (now (container .entry)) (now (out .entry))) ⌝ }
 {
-    let number = container_number(container);
+    let number = container::container_number(container);
     if number != 0 {
         return Done { number, written: 0 };
     }
@@ -54,7 +45,7 @@ pub fn read_packet(words: &[u8], out: &mut [u8]) -> Done
     let n = read::count_of(words);
     let mut bytes = [0u8; 255];
     read::low_bytes(&words[12..12 + 2 * n], &mut bytes);
-    let number = container_number(&bytes[..n]);
+    let number = container::container_number(&bytes[..n]);
     if number != 0 {
         return Done { number, written: 0 };
     }

@@ -1,5 +1,5 @@
 -- A packet whose own words are right is the packet of the bytes that it carries.
-use Prim.Native.Nat.{ℕ, suc, _+_, _*_, _/_, _%_, _≤_}
+use Prim.Native.Nat.{ℕ, suc, _+_, _*_, _/_, _%_}
 use mathlib.Core.Path.{_≡_, refl, sym, ap, ap₂, _∙_}
 use mathlib.Core.Bool.{true, _&&_}
 use mathlib.Core.List.{List, [], _∷_, _++_, map}
@@ -9,6 +9,7 @@ use lib.Dec.{eqb}
 use lib.ListN.{length, getD, take, drop, length-drop}
 use lib.Seq.{take-all, take-suc, getD-drop}
 use Rattle.laws.specs.Bytes.{Bytes}
+use Rattle.laws.proofs.Lists.{first-six}
 use Rattle.laws.proofs.Tests.{both}
 use Rattle.packet.specs.Words.{wordOf, low, checkWord, bytesOf, wordsOf}
 use Rattle.packet.specs.Writing.{headWords, frontWords, packetWords, packetBytes}
@@ -32,16 +33,6 @@ words-low [] h = refl
 words-low (w ∷ us) h =
     let t = both (parityRight w) (every parityRight us) h in
     ap₂ (λ (x : ℕ) (l : List ℕ). x ∷ l) (sym (eqb-true w (wordOf (low w)) (t .0))) (words-low us (t .1))
-
-first-six : (ws : List ℕ) → 6 ≤ length ws
-    → ws ≡ getD ws 0 0 ∷ getD ws 1 0 ∷ getD ws 2 0 ∷ getD ws 3 0 ∷ getD ws 4 0 ∷ getD ws 5 0 ∷ drop 6 ws
-first-six (a ∷ b ∷ c ∷ d ∷ e ∷ f ∷ ws) h = refl
-first-six [] h = absurd (omega arith)
-first-six (a ∷ []) h = absurd (omega arith)
-first-six (a ∷ b ∷ []) h = absurd (omega arith)
-first-six (a ∷ b ∷ c ∷ []) h = absurd (omega arith)
-first-six (a ∷ b ∷ c ∷ d ∷ []) h = absurd (omega arith)
-first-six (a ∷ b ∷ c ∷ d ∷ e ∷ []) h = absurd (omega arith)
 
 -- a list of n + 1 words is its first n and the last
 all-but-last : (l : List ℕ) (n : ℕ) → length l ≡ n + 1 → l ≡ take n l ++ (getD l n 0 ∷ [])

@@ -17,6 +17,7 @@ use Rattle.bench_video.proofs.bench_lines.Reads as bench-video-bench-lines
 use Rattle.container.proofs.blank_print.Reads as container-blank-print
 use Rattle.container.proofs.empty_contents.Reads as container-empty-contents
 use Rattle.container.proofs.read_container.Reads as container-read-container
+use Rattle.container.proofs.container_number.Reads as container-container-number
 use Rattle.container.proofs.write_container.Reads as container-write-container
 use Rattle.feed.proofs.open.Reads as feed-open
 use Rattle.feed.proofs.next.Reads as feed-next
@@ -39,6 +40,8 @@ use Rattle.floats.proofs.value.Reads as floats-value
 use Rattle.host.proofs.lipsync_read_container.Reads as host-lipsync-read-container
 use Rattle.host.proofs.lipsync_write_packet.Reads as host-lipsync-write-packet
 use Rattle.host.proofs.lipsync_read_packet.Reads as host-lipsync-read-packet
+use Rattle.host.proofs.lipsync_write_transport.Reads as host-lipsync-write-transport
+use Rattle.host.proofs.lipsync_read_transport.Reads as host-lipsync-read-transport
 use Rattle.host.proofs.lipsync_sample_line.Reads as host-lipsync-sample-line
 use Rattle.host.proofs.lipsync_is_monitored.Reads as host-lipsync-is-monitored
 use Rattle.laws.proofs.copy_at.Reads as laws-copy-at
@@ -83,6 +86,8 @@ use Rattle.text.proofs.put.Reads as text-put
 use Rattle.text.proofs.put_number.Reads as text-put-number
 use Rattle.text.proofs.put_item.Reads as text-put-item
 use Rattle.text.proofs.put_hex.Reads as text-put-hex
+use Rattle.transport.proofs.write_transport.Reads as transport-write-transport
+use Rattle.transport.proofs.read_transport.Reads as transport-read-transport
 use Rattle.answers.proofs.Unique as answers-theorems
 use Rattle.bench_audio.proofs.Unique as bench-audio-theorems
 use Rattle.bench_session.proofs.Unique as bench-session-theorems
@@ -103,6 +108,7 @@ use Rattle.sampling.proofs.Unique as sampling-theorems
 use Rattle.session.proofs.Unique as session-theorems
 use Rattle.sound.proofs.Unique as sound-theorems
 use Rattle.text.proofs.Unique as text-theorems
+use Rattle.transport.proofs.Unique as transport-theorems
 
 pub answers-fault-put-fault-unique : OneOutcome answers-fault-put-fault.Post (λ κs s. now (s .1 .1 .1 .0))
 answers-fault-put-fault-unique = answers-theorems.put-fault-unique
@@ -142,6 +148,9 @@ container-empty-contents-unique = container-theorems.empty-contents-unique
 
 pub container-read-container-unique : OneResult container-read-container.Post
 container-read-container-unique = container-theorems.read-container-unique
+
+pub container-container-number-unique : OneResult container-container-number.Post
+container-container-number-unique = container-theorems.container-number-unique
 
 pub container-write-container-unique : OneOutcome container-write-container.Post (λ κs s. now (s .1 .0))
 container-write-container-unique = container-theorems.write-container-unique
@@ -208,6 +217,12 @@ host-lipsync-write-packet-unique = host-theorems.lipsync-write-packet-unique
 
 pub host-lipsync-read-packet-unique : OneOutcome host-lipsync-read-packet.Post {X = List ℕ × ℕ} (λ κs s. (now (s .1 .0), now (s .1 .1 .0)))
 host-lipsync-read-packet-unique = host-theorems.lipsync-read-packet-unique
+
+pub host-lipsync-write-transport-unique : OneOutcome host-lipsync-write-transport.Post {X = List ℕ × ℕ} (λ κs s. (now (s .1 .0), now (s .1 .1 .0)))
+host-lipsync-write-transport-unique = host-theorems.lipsync-write-transport-unique
+
+pub host-lipsync-read-transport-unique : OneOutcome host-lipsync-read-transport.Post {X = List ℕ × ℕ} (λ κs s. (now (s .1 .0), now (s .1 .1 .0)))
+host-lipsync-read-transport-unique = host-theorems.lipsync-read-transport-unique
 
 pub host-lipsync-sample-line-unique : OneOutcome host-lipsync-sample-line.Post {X = List ℕ × ℕ} (λ κs s. (now (s .1 .1 .0), now (s .1 .1 .1 .0)))
 host-lipsync-sample-line-unique = host-theorems.lipsync-sample-line-unique
@@ -340,3 +355,9 @@ text-put-item-unique = text-theorems.put-item-unique
 
 pub text-put-hex-unique : OneOutcome text-put-hex.Post (λ κs s. now (s .1 .0))
 text-put-hex-unique = text-theorems.put-hex-unique
+
+pub transport-write-transport-unique : OneOutcome transport-write-transport.Post (λ κs s. now (s .1 .0))
+transport-write-transport-unique = transport-theorems.write-transport-unique
+
+pub transport-read-transport-unique : OneOutcome transport-read-transport.Post (λ κs s. now (s .1 .0))
+transport-read-transport-unique = transport-theorems.read-transport-unique

@@ -3,7 +3,7 @@
 use super::containers::{self, allowed_counts, audio_place, has_two_fields, Wanted};
 use super::random::Random;
 use super::script::Script;
-use super::{contents, largest};
+use super::{contents, largest, streams};
 use crate::container::{self, Contents, VideoValues, ID_SIZE};
 use crate::feed::MOST_ROOM;
 use crate::formats::RATES;
@@ -210,7 +210,7 @@ fn packet_around(random: &mut Random, container: &[u8]) -> Vec<u8> {
     bytes_of_words(&words)
 }
 
-/// Fingerprints of these counts, read, written again, wrapped, unwrapped and written.
+/// Fingerprints of these counts, read, written again, wrapped and unwrapped in both packets, and written.
 fn through_all_calls(script: &mut Script, rate: u8, counts: &[usize]) {
     let random = &mut script.random;
     let before = containers::without_audio(random, rate, Wanted::default());
@@ -228,6 +228,7 @@ fn through_all_calls(script: &mut Script, rate: u8, counts: &[usize]) {
         let room = room(&mut script.random, size);
         script.with_room(tag, room, given);
     }
+    streams::wrap_and_unwrap(script, &container);
 }
 
 /// Counts whose lowest five bits, all that a container has room for, are one of the rate's.
@@ -298,7 +299,7 @@ mod tests {
         assert!(all.into_iter().all(|pair| met.contains(&pair)), "{met:?}");
     }
 
-    /// 24h has the rate in the low byte of the packet's tenth word.
+    /// 24h has the rate in the low byte of the packet's tenth word, 27h in its tenth byte.
     #[test]
     fn each_feed_is_accepted_and_refused_at_every_rate_and_call() {
         let feed = counts(Random::new("counts", 1), 1);
@@ -307,14 +308,15 @@ mod tests {
             let told = Desk::default().call(tag, payload).ok().expect("no bad record");
             let rate = match tag {
                 0x21 => payload[3] / 16,
-                0x22 | 0x23 => payload[2 + 3] / 16,
+                0x22 | 0x23 | 0x26 => payload[2 + 3] / 16,
                 0x24 => payload[2 + 2 * 9] / 16,
+                0x27 => payload[2 + 9] / 16,
                 _ => payload[2 + 1],
             };
             let number = if told.starts_with("ok") { "0" } else { told.split(' ').nth(1).expect("a number") };
             met.insert((tag, rate, number.to_string()));
         }
-        for (tag, rate) in (0x21..=0x25).flat_map(|tag| RATES.iter().map(move |rate| (tag, rate.code))) {
+        for (tag, rate) in (0x21..=0x27).flat_map(|tag| RATES.iter().map(move |rate| (tag, rate.code))) {
             let refused = if tag == 0x25 { "29" } else { "27" };
             for number in ["0", refused].into_iter().chain((tag > 0x21).then_some("12")) {
                 assert!(met.contains(&(tag, rate, number.to_string())), "{tag:x} rate {rate} number {number}");

@@ -5,7 +5,7 @@ use super::containers::{self, allowed_counts, has_two_fields, Wanted};
 use super::random::Random;
 use super::script::{pairs, Script};
 use super::sessions::sound_of_a_frame;
-use super::{contents, counts};
+use super::{contents, counts, streams};
 use crate::container::{AudioPlace, Contents, VideoValues, ID_SIZE, MOST_FINGERPRINTS};
 use crate::feed::MOST_ROOM;
 use crate::formats::{FORMATS, RATES};
@@ -15,7 +15,7 @@ const LARGEST: usize = 254;
 /// A feed of this size gets no further frame: with 32 fingerprints one may take 600 KB.
 const ENOUGH_BYTES: usize = 1_200_000;
 /// Of the rates that have two fields the only one whose cadence has 5 bytes: 25 Hz.
-const FIVE_BYTES: u8 = 5;
+pub const FIVE_BYTES: u8 = 5;
 
 /// An interlaced session of very many fingerprints.
 fn setup(script: &mut Script) {
@@ -57,7 +57,8 @@ fn pack(script: &mut Script) -> Vec<u8> {
     }
 }
 
-/// The container read, written again, wrapped and unwrapped, with just the room for it and one byte less.
+/// The container read, written again, wrapped and unwrapped in both packets, with just the room for it and one byte
+/// less.
 fn there_and_back(script: &mut Script, container: &[u8]) {
     let packet = bytes_of_words(&words_around(container));
     script.record(0x21, &[], container);
@@ -67,6 +68,7 @@ fn there_and_back(script: &mut Script, container: &[u8]) {
         script.with_room(tag, size - 1, given);
         script.with_room(tag, size, given);
     }
+    streams::there_and_back(script, container);
 }
 
 /// The largest contents of a rate: 254 bytes at 25 Hz.
@@ -76,6 +78,10 @@ fn largest_contents(random: &mut Random, rate: u8) -> Contents {
     contents.video = if has_two_fields(rate) { VideoValues::Two(field_1, field_2) } else { VideoValues::One(field_1) };
     let count = *allowed_counts(rate).last().expect("a cadence has a count");
     counts::with_counts(random, &contents, &[count; MOST_FINGERPRINTS])
+}
+
+pub fn container_of_rate(random: &mut Random, rate: u8) -> Vec<u8> {
+    containers::written(&largest_contents(random, rate))
 }
 
 /// The largest container of a rate at every call that takes one, with just the room for it and one byte less.

@@ -15,6 +15,7 @@ mod rules;
 mod script;
 mod sessions;
 mod sound;
+mod streams;
 mod sums;
 
 use random::Random;
@@ -29,7 +30,7 @@ const fn kind(name: &'static str, make: fn(Random, u64) -> Vec<u8>, says: &'stat
     Kind { name, says, make }
 }
 
-pub const KINDS: [Kind; 16] = [
+pub const KINDS: [Kind; 17] = [
     kind("setup", sessions::setup, "setups listed and not, calls on empty sessions"),
     kind("session", sessions::session, "sessions of every format and rate: all calls, in and out of order"),
     kind("picture", sessions::picture, "sessions of every format and rate: mostly lines and packs"),
@@ -46,6 +47,7 @@ pub const KINDS: [Kind; 16] = [
     kind("sample", lines::sample, "line sampling by itself"),
     kind("container", containers::container, "containers whole and damaged, read and written again"),
     kind("packet", packets::packet, "packets whole and damaged, containers wrapped"),
+    kind("transport", streams::transport, "transport packets whole and damaged, containers wrapped"),
     kind("write", contents::write, "flat contents whole and damaged"),
     kind("counts", counts::counts, "byte counts that each rate has and has not, equal and unequal, at every call"),
     kind("broken", broken::broken, "feeds with a malformed record"),

@@ -18,6 +18,8 @@ pub struct Script {
     pub random: Random,
     /// For the rules of setups alone, so that all else of a feed is what it was without them (02, A9).
     rules: Random,
+    /// For the records of transport packets alone, likewise (02, A5).
+    pub streams: Random,
     /// Packs that were not refused.
     pub packs: usize,
     pub desk: Desk,
@@ -35,9 +37,18 @@ pub fn pairs() -> Vec<(u8, u8)> {
 
 impl Script {
     pub fn new(mut random: Random) -> Script {
-        let rules = random.apart();
+        let (rules, streams) = (random.apart(), random.further_apart());
         let motion = Motion::lively(&mut random, 50);
-        Script { feed: Vec::new(), random, rules, packs: 0, desk: Desk::default(), sources: Vec::new(), motion }
+        Script {
+            feed: Vec::new(),
+            random,
+            rules,
+            streams,
+            packs: 0,
+            desk: Desk::default(),
+            sources: Vec::new(),
+            motion,
+        }
     }
 
     pub fn running(&self) -> Option<&Running> {

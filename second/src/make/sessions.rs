@@ -1,9 +1,9 @@
 // make/sessions.rs: feeds of session calls: setups, lines, sound, packs and restarts, in and out of order.
 
 use super::broken::aside;
-use super::instants;
 use super::random::Random;
 use super::script::{pairs, Script};
+use super::{instants, streams};
 use crate::container::ID_SIZE;
 use crate::formats::{Rate, FORMATS};
 
@@ -281,6 +281,7 @@ pub fn mixed(random: Random, seed: u64) -> Vec<u8> {
     while script.packs < 4 && script.feed.len() < MOST_BYTES {
         turn(&mut script, &turns);
         (0..script.random.below(4)).for_each(|_| aside(&mut script));
+        (0..script.streams.below(3)).for_each(|_| streams::one(&mut script));
     }
     script.feed
 }

@@ -5,13 +5,14 @@ use mathlib.Core.List.{List, map}
 use native.Mathlib.Omega.{arith}
 use lib.ListN.{length, take, drop, replicate}
 use lib.Seq.{sets}
-use Rattle.laws.proofs.Lists.{sets-over}
+use Rattle.laws.proofs.Lists.{sets-over, stored-front}
 use Rattle.laws.proofs.Calls.{told-refused, told-short, told-ok}
+use Rattle.laws.proofs.Layers.{own-first, own-passed}
 use Rattle.container.specs.Reading.{reading}
 use Rattle.packet.specs.Words.{low, wordsOf}
 use Rattle.packet.specs.Reading.{userWords, frameNumber, userBytes, innerNumber, readNumber, readDone, readOut}
-use Rattle.packet.proofs.TenBits.{words-part, stored-front}
-use Rattle.packet.proofs.Passed.{count-byte, passed-size, length-user-bytes, inner-frame, inner-container}
+use Rattle.packet.proofs.TenBits.{words-part}
+use Rattle.packet.proofs.Passed.{count-byte, passed-size, length-user-bytes}
 use borrow.Author.Needs.{needs}
 use Rattle.packet.proofs.read_packet.Statement.{statement}
 use Rattle.packet.proofs.read_packet.Tie as tie
@@ -41,17 +42,18 @@ there c =
     ∙ stored-front (userBytes (lent (c .before .before .before .before .before .before .before .before))) (replicate 255 0) (n .result) (count (c .before .before .before)) (omega (arith, small (c .before .before .before)))
 
 number : (c : tie.After-container-number) → c .container-number .result ≡ innerNumber (lent (c .before .before .before .before .before .before .before .before .before .before .before))
-number c = c .container-number .ensures ∙ ap (λ (b : List ℕ). reading b .number) (there (c .before .before .before)) ∙ sym (inner-container _ (right (c .before .before .before .before .before .before .before)))
+unfolding innerNumber
+number c = c .container-number .ensures ∙ ap (λ (b : List ℕ). reading b .number) (there (c .before .before .before)) ∙ sym (own-passed _ _ (right (c .before .before .before .before .before .before .before)))
 
 frame-number-requires : tie.Need-frame-number-requires
 frame-number-requires c κs = search needs
 
 returns : tie.Need-returns
-unfolding readDone readOut readNumber
+unfolding readDone readOut readNumber innerNumber
 returns c =
     let s = c .before .before .before .before in
     let f = c .before .frame-number in
-    rw (inner-frame (lent s) (f .result) (f .ensures) (c .if1 .taken)) (told-refused (f .result) (userBytes (lent s)) (s .args .out .now) (c .if1 .taken))
+    rw (own-first (frameNumber (lent s)) (reading (userBytes (lent s)) .number) (f .result) (f .ensures) (c .if1 .taken)) (told-refused (f .result) (userBytes (lent s)) (s .args .out .now) (c .if1 .taken))
 
 count-of-requires : tie.Need-count-of-requires
 count-of-requires c κs = omega (arith, passed-size _ (right c))

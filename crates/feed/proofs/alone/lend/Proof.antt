@@ -1,7 +1,7 @@
 -- `feed::alone::lend` meets its contract, tag by tag.
 use mathlib.Core.Path.{refl, ap}
 use borrow.Author.Tests.{eq-eqb, ne-eqb}
-use Rattle.answers.specs.declared.Hand.the-variants.{Rewrite, Wrap, Unwrap}
+use Rattle.answers.specs.declared.Hand.the-variants.{Rewrite, Wrap, Unwrap, Stream, Unstream}
 use Rattle.answers.specs.declared.Answer.the-variants.{Handed}
 use Rattle.feed.specs.Alone.{lentFed}
 use borrow.Author.Needs.{needs}
@@ -48,9 +48,29 @@ returns-4 : tie.Need-returns-4
 unfolding lentFed
 returns-4 c = rw (ne-eqb _ 0x22 (c .before .before .before .before .before .before .before .if1 .left), ne-eqb _ 0x23 (c .before .before .before .before .before .before .if2 .left), ne-eqb _ 0x24 (c .before .before .before .before .before .if3 .left), eq-eqb _ 0x25 (c .before .before .before .before .if4 .taken)) (c .before .before .write .ensures)
 
+write-transport-requires : tie.Need-write-transport-requires
+write-transport-requires c κs = search needs
+
+same-length-5 : tie.Need-same-length-5
+same-length-5 c = search needs
+
 returns-5 : tie.Need-returns-5
 unfolding lentFed
-returns-5 c = rw (ne-eqb _ 0x22 (c .before .before .before .if1 .left), ne-eqb _ 0x23 (c .before .before .if2 .left), ne-eqb _ 0x24 (c .before .if3 .left), ne-eqb _ 0x25 (c .if4 .left)) (refl, refl)
+returns-5 c = rw (ne-eqb _ 0x22 (c .before .before .before .before .before .before .before .before .if1 .left), ne-eqb _ 0x23 (c .before .before .before .before .before .before .before .if2 .left), ne-eqb _ 0x24 (c .before .before .before .before .before .before .if3 .left), ne-eqb _ 0x25 (c .before .before .before .before .before .if4 .left), eq-eqb _ 0x26 (c .before .before .before .before .if5 .taken)) (ap (Handed Stream) (c .before .before .write-transport .ensures .0), c .before .before .write-transport .ensures .1)
+
+read-transport-requires : tie.Need-read-transport-requires
+read-transport-requires c κs = search needs
+
+same-length-6 : tie.Need-same-length-6
+same-length-6 c = search needs
+
+returns-6 : tie.Need-returns-6
+unfolding lentFed
+returns-6 c = rw (ne-eqb _ 0x22 (c .before .before .before .before .before .before .before .before .before .if1 .left), ne-eqb _ 0x23 (c .before .before .before .before .before .before .before .before .if2 .left), ne-eqb _ 0x24 (c .before .before .before .before .before .before .before .if3 .left), ne-eqb _ 0x25 (c .before .before .before .before .before .before .if4 .left), ne-eqb _ 0x26 (c .before .before .before .before .before .if5 .left), eq-eqb _ 0x27 (c .before .before .before .before .if6 .taken)) (ap (Handed Unstream) (c .before .before .read-transport .ensures .0), c .before .before .read-transport .ensures .1)
+
+returns-7 : tie.Need-returns-7
+unfolding lentFed
+returns-7 c = rw (ne-eqb _ 0x22 (c .before .before .before .before .before .if1 .left), ne-eqb _ 0x23 (c .before .before .before .before .if2 .left), ne-eqb _ 0x24 (c .before .before .before .if3 .left), ne-eqb _ 0x25 (c .before .before .if4 .left), ne-eqb _ 0x26 (c .before .if5 .left), ne-eqb _ 0x27 (c .if6 .left)) (refl, refl)
 
 pub lend-spec : {M : Type 1} → statement M
 lend-spec =
@@ -68,4 +88,10 @@ lend-spec =
     write-requires
     same-length-4
     returns-4
-    returns-5)
+    write-transport-requires
+    same-length-5
+    returns-5
+    read-transport-requires
+    same-length-6
+    returns-6
+    returns-7)

@@ -1,0 +1,6 @@
+pub mod Transport
+pub mod Seal
+pub mod There
+pub mod Back
+pub mod Changed
+pub mod Figures

@@ -1,0 +1,1 @@
+// Theorems about transport packets, in proofs/; there is no code here.
