@@ -1,5 +1,5 @@
 -- Tests: their value from the fact, and the facts from a chain of them.
-use Prim.Native.Nat.{ℕ, zero, suc, _≤_, _<_}
+use Prim.Native.Nat.{ℕ, zero, suc, _+_, _≤_, _<_}
 use mathlib.Core.Path.{_≡_, refl, sym, ap, _∙_}
 use mathlib.Core.Bool.{Bool, true, false, cond, _&&_, false≢true}
 use native.Mathlib.Omega.{arith}
@@ -62,3 +62,16 @@ at-below p (suc n) k e h =
     go : (t : Bool) → eqb k n ≡ t → p n ≡ true → (k < n → p k ≡ true) → p k ≡ true
     go true x y r = ap p (eqb-true k n x) ∙ y
     go false x y r = let q : (k ≡ n → ⊥) = eqb-false k n x in r (omega arith)
+
+-- what the last arm of a `match` over n keys from m on knows
+unfoldable pub NoneOf : ℕ → ℕ → ℕ → Type 0
+NoneOf k m zero = Unit {0}
+NoneOf k m (suc n) = NoneOf k m n × (k ≡ m + n → ⊥)
+
+pub none-left : (k m n : ℕ) → NoneOf k m n → m ≤ k → m + n ≤ k
+unfolding NoneOf
+none-left k m zero r h = omega arith
+none-left k m (suc n) r h =
+    let l = none-left k m n (r .0) h in
+    let d = r .1 in
+    omega arith

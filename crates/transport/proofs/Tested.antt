@@ -2,12 +2,12 @@
 use Prim.Native.Nat.{ℕ, _*_, _^_, _<_}
 use mathlib.Core.Path.{_≡_, refl}
 use mathlib.Core.Bool.{Bool, true}
-use mathlib.Core.List.{List}
 use lib.Dec.{eqb}
 use lib.ListN.{getD}
 use borrow.Author.Tests.{eqb-true}
 use Rattle.laws.proofs.Tests.{below, at-below}
-use Rattle.transport.specs.Register.{bitStep, bitsStep, byteStep, Tabled}
+use Rattle.transport.specs.Register.{bitStep, bitsStep, byteStep}
+use Rattle.transport.specs.Table.{table}
 
 -- a byte that comes in is gone with the same one at the top
 unfoldable goes : ℕ → Bool
@@ -22,9 +22,13 @@ unfolding goes
 byte-gone x h = eqb-true (byteStep (x * 2 ^ 24) x) 0 (at-below goes 256 x all-go h)
 
 -- the table's rule, tested at each entry
-unfoldable pub right : List ℕ → ℕ → Bool
-right table i = eqb (getD table i 0) (byteStep (i * 2 ^ 24) 0)
+unfoldable right : ℕ → Bool
+right i = eqb (getD table i 0) (byteStep (i * 2 ^ 24) 0)
 
-pub tabled : (table : List ℕ) → below (right table) 256 ≡ true → Tabled table
+all-right : below right 256 ≡ true
+unfolding below right byteStep bitsStep bitStep
+all-right = refl
+
+pub tabled : (i : ℕ) → i < 256 → getD table i 0 ≡ byteStep (i * 2 ^ 24) 0
 unfolding right
-tabled table e = record { entry = λ i h. eqb-true (getD table i 0) (byteStep (i * 2 ^ 24) 0) (at-below (right table) 256 i e h) }
+tabled i h = eqb-true (getD table i 0) (byteStep (i * 2 ^ 24) 0) (at-below right 256 i all-right h)

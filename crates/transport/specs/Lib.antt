@@ -1,3 +1,4 @@
 pub mod Register
+pub mod Table
 pub mod Writing
 pub mod Reading

@@ -1,9 +1,7 @@
 -- The register of CRC_32 (02, A5; Annex A of ISO/IEC 13818-1, as docs/READINGS.md takes it): 32 bits, all ones at the start, each byte's highest bit first.
-use Prim.Native.Nat.{ℕ, zero, suc, _*_, _/_, _%_, _^_, _<_}
-use mathlib.Core.Path.{_≡_}
+use Prim.Native.Nat.{ℕ, zero, suc, _*_, _/_, _%_, _^_}
 use mathlib.Core.List.{List, [], _∷_}
 use lib.Bits.{bitXor}
-use lib.ListN.{getD}
 
 -- bit k of a number, the lowest being bit 0
 abbrev pub bit : ℕ → ℕ → ℕ
@@ -36,7 +34,3 @@ registerOf bytes = run 0xFFFF_FFFF bytes
 -- the register's four bytes, the highest first
 unfoldable pub fourBytes : ℕ → List ℕ
 fourBytes reg = reg / 2 ^ 24 ∷ reg / 2 ^ 16 % 256 ∷ reg / 2 ^ 8 % 256 ∷ reg % 256 ∷ []
-
--- the rule of the code's table: entry i is what a register with i at its top and zeros below becomes by a byte of zeros
-pub record Tabled (table : List ℕ) : Type 0 where
-  pub entry : (i : ℕ) → i < 256 → getD table i 0 ≡ byteStep (i * 2 ^ 24) 0

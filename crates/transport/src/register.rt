@@ -1,27 +1,23 @@
 // The register of CRC_32, a byte at a time.
 ghost use mathlib.Core.Path.{_≡_};
-ghost use Rattle.transport.specs.Register.{byteStep, registerOf, fourBytes, Tabled};
-use crate::table::TABLE;
+ghost use Rattle.transport.specs.Register.{byteStep, registerOf, fourBytes};
+use crate::table::entry;
 
 // The register after one more byte.
-fn step(reg: u32, byte: u8, table: &[u32; 256]) -> u32
-    requires { ⌜ Tabled (now table) ⌝ }
+fn step(reg: u32, byte: u8) -> u32
     ensures { λ r. ⌜ r ≡ byteStep reg byte ⌝ }
 {
-    let at = ((reg >> 24) ^ (byte as u32)) as usize;
-    (reg << 8) ^ table[at]
+    (reg << 8) ^ entry(256 + ((reg >> 24) ^ (byte as u32)))
 }
 
 // What the bytes leave in the register.
 pub(crate) fn register(bytes: &[u8]) -> u32
     ensures { λ r. ⌜ r ≡ registerOf (now (bytes .entry)) ⌝ }
 {
-    // An index on the constant itself would copy it for each byte.
-    let table = TABLE;
     let mut reg: u32 = 0xffff_ffff;
     let mut i = 0;
     while i < bytes.len() {
-        reg = step(reg, bytes[i], &table);
+        reg = step(reg, bytes[i]);
         i += 1;
     }
     reg

@@ -1,7 +1,8 @@
 -- `sampling::row_of` meets its contract: the table's row, and zeros where the format is not listed.
-use Prim.Native.Nat.{ℕ, _+_, _≤_}
+use Prim.Native.Nat.{ℕ}
 use mathlib.Core.Path.{_≡_, sym, ap, _∙_}
 use native.Mathlib.Omega.{arith}
+use Rattle.laws.proofs.Tests.{NoneOf, none-left}
 use Rattle.sampling.specs.declared.Row.{Row}
 use Rattle.sampling.specs.Formats.{table, named, rowOf}
 use Rattle.sampling.proofs.Table.{no-row}
@@ -72,20 +73,9 @@ returns-8 : tie.Need-returns-8
 unfolding rowOf table
 returns-8 c = arm (c .before .match .keys8) (c .by-name8 .ensures)
 
-not-0 : {f : ℕ} → (f ≡ 0 → ⊥) → 1 ≤ f
-not-0 n = omega arith
-
--- one key more is passed
-past : {f : ℕ} (k : ℕ) → k ≤ f → (f ≡ k → ⊥) → k + 1 ≤ f
-past k l n = omega arith
-
 returns-9 : tie.Need-returns-9
-unfolding named
-returns-9 c =
-    let n = c .before .match .rest in
-    let three = past 2 (past 1 (not-0 (n .0 .0 .0 .0 .0 .0 .0 .1)) (n .0 .0 .0 .0 .0 .0 .1)) (n .0 .0 .0 .0 .0 .1) in
-    let six = past 5 (past 4 (past 3 three (n .0 .0 .0 .0 .1)) (n .0 .0 .0 .1)) (n .0 .0 .1) in
-    c .by-name9 .ensures ∙ sym (no-row _ (past 7 (past 6 six (n .0 .1)) (n .1)))
+unfolding named NoneOf
+returns-9 c = c .by-name9 .ensures ∙ sym (no-row _ (none-left _ 0 8 (c .before .match .rest) (omega arith)))
 
 pub row-of-spec : {M : Type 1} → statement M
 row-of-spec =

@@ -1,4 +1,4 @@
--- `transport::register::register` meets its contract. What is left of the bytes leads from the register to that of them all. The table's rule is one test, computed.
+-- `transport::register::register` meets its contract. What is left of the bytes leads from the register to that of them all.
 use Prim.Native.Nat.{ℕ, _+_, _≤_, _<_, _-_}
 use mathlib.Core.List.{List}
 use mathlib.Core.Path.{_≡_, refl, ap, _∙_, sym}
@@ -6,17 +6,16 @@ use native.Mathlib.Omega.{arith}
 use native.Mathlib.Numerals.{add-one}
 use lib.ListN.{length, drop, getD, drop-of-length-le}
 use lib.Seq.{drop-cons}
+use borrow.Author.Needs.{needs}
 use Rattle.transport.proofs.register.register.Statement.{statement}
 use Rattle.transport.proofs.register.register.Tie as tie
-use Rattle.transport.specs.Register.{bitStep, bitsStep, byteStep, run, registerOf}
-use Rattle.laws.proofs.Tests.{below}
-use Rattle.transport.proofs.Tested.{right, tabled}
+use Rattle.transport.specs.Register.{byteStep, run, registerOf}
 
 abbrev Inv-loop : tie.InvT-loop
-Inv-loop bytes table reg₀ i₀ reg i = (i ≤ length bytes) × (registerOf bytes ≡ run reg (drop i bytes))
+Inv-loop bytes reg₀ i₀ reg i = (i ≤ length bytes) × (registerOf bytes ≡ run reg (drop i bytes))
 
 abbrev μ-loop : tie.MeasureT-loop
-μ-loop bytes table reg₀ i₀ reg i = length bytes - i
+μ-loop bytes reg₀ i₀ reg i = length bytes - i
 
 one-more : (reg : ℕ) (l : List ℕ) (i : ℕ) → i < length l → run reg (drop i l) ≡ run (byteStep reg (getD l i 0)) (drop (i + 1) l)
 unfolding run
@@ -30,8 +29,7 @@ shared-slice-read-step : tie.Need-shared-slice-read-step Inv-loop μ-loop
 shared-slice-read-step c = omega arith
 
 step-requires : tie.Need-step-requires Inv-loop μ-loop
-unfolding below right byteStep bitsStep bitStep
-step-requires c κs = tabled _ refl
+step-requires c κs = search needs
 
 add-i : tie.Need-add-i Inv-loop μ-loop
 add-i c = omega arith
@@ -41,7 +39,7 @@ loop-less c = omega arith
 
 loop-again : tie.Need-loop-again Inv-loop μ-loop
 loop-again c =
-    let at = c .before .before .before .before in
+    let at = c .before .before .before in
     let bytes = at .before .before .args .bytes .now in (
       omega arith,
       at .loop .inv .1 ∙ one-more (at .loop .reg) bytes (at .loop .i) (omega arith)
