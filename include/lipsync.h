@@ -161,7 +161,7 @@ uint8_t lipsync_read_packet(const uint8_t *words, size_t length, uint8_t *out, s
 uint8_t lipsync_write_transport(const uint8_t *container, size_t length, uint8_t *out, size_t room, size_t *written);
 
 /*
- * Takes the container's bytes out of such a packet: *written is their number, length - 10. One byte changed, whichever and to whatever, is refused.
+ * Takes the container's bytes out of such a packet: *written is their number, length - 10. A right packet with one byte changed, whichever and to whatever, is refused.
  * Refusals: 40 to 43, 20 to 28, then 12 where room is under that number; LIPSYNC_LARGEST_CONTAINER is always enough.
  */
 uint8_t lipsync_read_transport(const uint8_t *packet, size_t length, uint8_t *out, size_t room, size_t *written);

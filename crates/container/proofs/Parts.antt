@@ -1,7 +1,7 @@
 -- Laws of reading: what a right fingerprint and a header with no fault say, how many bytes a part takes, and the outcome from the parts' outcomes.
 use Prim.Native.Nat.{ℕ, zero, suc, _+_, _-_, _/_, _%_, _≤_, _<_}
 use mathlib.Core.List.{List, _++_}
-use mathlib.Core.Path.{_≡_}
+use mathlib.Core.Path.{_≡_, ap}
 use mathlib.Core.Bool.{Bool, true, false, cond, false≢true}
 use native.Mathlib.Omega.{arith}
 use lib.ListN.{length, getD, take, drop, replicate, length-drop}
@@ -173,6 +173,23 @@ pub audio-used : (flag rate : ℕ) (b : List ℕ) → audioPart flag rate b .use
 audio-used flag rate b =
     audio-cases (λ (p : AudioPart). p .used ≤ length b) flag rate b (λ _. omega arith) (omega arith)
     (λ h. let u = run-used rate (countIn b) (drop 1 b) (h .run) in omega (arith, rw length-drop at u, h .some))
+
+-- ---- where the parts end: within b
+
+module _ (flags : ℕ) (b : List ℕ) (i : IdPart) (ei : i ≡ idIn flags b) where
+  pub id-within : i .used ≤ length b
+  id-within = omega (arith, id-used (flags / 4 % 2) b, ap (λ (i : IdPart). i .used) ei)
+
+  module _ (v : VideoPart) (ev : v ≡ videoPart (flags / 2 % 2) (flags / 16) (drop (i .used) b)) where
+    pub video-within : i .used + v .used ≤ length b
+    video-within =
+        let u = video-used (flags / 2 % 2) (flags / 16) (drop (i .used) b) in
+        omega (arith, id-within, ap (λ (v : VideoPart). v .used) ev, rw length-drop at u)
+
+    pub audio-within : (used : ℕ) → used ≡ audioPart (flags % 2) (flags / 16) (drop (i .used + v .used) b) .used → i .used + v .used + used ≤ length b
+    audio-within used e =
+        let u = audio-used (flags % 2) (flags / 16) (drop (i .used + v .used) b) in
+        omega (arith, video-within, e, rw length-drop at u)
 
 -- ---- the outcome from the parts' outcomes
 

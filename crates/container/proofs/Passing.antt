@@ -15,7 +15,8 @@ use Rattle.rates.specs.Cadence.{countOccurs}
 use Rattle.container.specs.declared.PrintPart.{PrintPart}
 use Rattle.container.specs.declared.Reading.{Reading}
 use Rattle.container.specs.Contents.{blankPrint, allCarry, sameCount}
-use Rattle.container.specs.Parts.{noPrint, printPart, printAt, isAlike, Run, runOf, audioOf}
+use Rattle.container.specs.Parts.{noPrint, printPart, printAt, Run, runOf, audioOf}
+use Rattle.container.specs.Passing.{isAlike}
 use Rattle.container.specs.Reading.{partsJoined, partsReading}
 use Rattle.container.proofs.Parts.{PrintRight, print-right, print-is, print-used}
 use Rattle.container.proofs.Runs.{Going, going-bad, going-step, going-end, going-print, run-length}

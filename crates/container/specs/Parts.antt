@@ -89,10 +89,6 @@ printPart rate b =
     (printAt b)
     noPrint) noPrint) noPrint) noPrint) noPrint
 
--- the tests that are left of it where the byte of its count has to be that of a right one
-unfoldable pub isAlike : ℕ → List ℕ → Bool
-isAlike counted b = leb (counted / 8 + 2) (length b) && (eqb (getD b 1 0) counted && mixListed (getD b 0 0 % 8))
-
 -- fingerprints one after the other
 pub record Run : Type 0 where
   pub ok : Bool

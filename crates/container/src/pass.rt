@@ -1,7 +1,8 @@
 // Passing over the parts of a container: the number that a reading answers, with nothing made of what they say.
 ghost use mathlib.Core.Path.{_≡_};
 ghost use Prim.Native.Nat.{_≤_};
-ghost use Rattle.container.specs.Parts.{printPart, isAlike, runOf, audioOf, audioPart};
+ghost use Rattle.container.specs.Parts.{printPart, runOf, audioOf, audioPart};
+ghost use Rattle.container.specs.Passing.{isAlike};
 ghost use Rattle.container.specs.Reading.{partsReading};
 use crate::Span;
 use crate::read::read_id;

@@ -19,12 +19,6 @@ use Rattle.transport_laws.specs.Changed.{numberAt}
 use Rattle.transport_laws.proofs.Seal.{one-overwritten}
 use Rattle.transport_laws.proofs.Back.{Starts, starts}
 
-pub number-some : (k : ℕ) → numberAt k ≡ 0 → ⊥
-unfolding numberAt
-number-some k e =
-    chosen (λ (n : ℕ). n ≡ 0 → ⊥) (ltb k 4) 41 (cond (ltb k 6) 42 43) (λ _ z. omega arith)
-    (λ _. chosen (λ (n : ℕ). n ≡ 0 → ⊥) (ltb k 6) 42 43 (λ _ z. omega arith) (λ _ z. omega arith)) e
-
 -- two lists with the start code agree in it
 start-same : (s t : List ℕ) → Starts s → Starts t → (k : ℕ) → k < 4 → getD s k 0 ≡ getD t k 0
 start-same s t a b zero h = a .first ∙ sym (b .first)
@@ -106,3 +100,10 @@ module _ (s : List ℕ) (right : frameNumber s ≡ 0) (bytes : Bytes s) (k x : �
           | no h ↦ rw (ten, start-kept (omega arith), length-kept (omega arith), in-covered, le-ltb k 4 (omega arith), le-ltb k 6 (omega arith))
         ]
       ]
+
+-- and that is a refusal
+pub number-some : (k : ℕ) → numberAt k ≡ 0 → ⊥
+unfolding numberAt
+number-some k e =
+    chosen (λ (n : ℕ). n ≡ 0 → ⊥) (ltb k 4) 41 (cond (ltb k 6) 42 43) (λ _ z. omega arith)
+    (λ _. chosen (λ (n : ℕ). n ≡ 0 → ⊥) (ltb k 6) 42 43 (λ _ z. omega arith) (λ _ z. omega arith)) e

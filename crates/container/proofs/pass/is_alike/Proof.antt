@@ -1,6 +1,6 @@
 -- `container::pass::is_alike` meets its contract: each answer by the tests that led to it.
 use Rattle.laws.proofs.Tests.{tests}
-use Rattle.container.specs.Parts.{isAlike}
+use Rattle.container.specs.Passing.{isAlike}
 use borrow.Author.Needs.{needs}
 use Rattle.container.proofs.pass.is_alike.Statement.{statement}
 use Rattle.container.proofs.pass.is_alike.Tie as tie

@@ -4,13 +4,11 @@ use mathlib.Core.Path.{_≡_, refl, ap, sym, _∙_}
 use mathlib.Core.List.{List}
 use native.Mathlib.Omega.{arith}
 use borrow.Author.Tests.{not-true, not-false}
-use lib.ListN.{length, drop, length-drop}
-use Rattle.container.specs.declared.IdPart.{IdPart}
-use Rattle.container.specs.declared.VideoPart.{VideoPart}
+use lib.ListN.{length, drop}
 use Rattle.container.specs.declared.AudioPart.{AudioPart}
 use Rattle.container.specs.declared.Reading.{Reading}
 use Rattle.container.specs.Parts.{videoPart, audioPart}
-use Rattle.container.proofs.Parts.{tail-part, id-used, video-used, audio-used, parts-25, parts-26, parts-27, parts-28, parts-0}
+use Rattle.container.proofs.Parts.{tail-part, id-within, video-within, audio-within, parts-25, parts-26, parts-27, parts-28, parts-0}
 use borrow.Author.Needs.{needs}
 use Rattle.container.proofs.pass.parts_number.Statement.{statement}
 use Rattle.container.proofs.pass.parts_number.Tie as tie
@@ -29,9 +27,6 @@ module _ (c : tie.After-read-id) where
   abbrev p : ℕ
   p = c .read-id .result .used
 
-  id-within : p ≤ length bytes
-  id-within = omega (arith, id-used (flags / 4 % 2) bytes, ap (λ (i : IdPart). i .used) (c .read-id .ensures))
-
 -- after the video part
 abbrev first : tie.After-read-video → tie.After-read-id
 first c = c .before .before .before
@@ -42,11 +37,6 @@ module _ (c : tie.After-read-video) where
 
   video-is : c .read-video .result ≡ videoPart (flags (first c) / 2 % 2) (flags (first c) / 16) (drop (p (first c)) (bytes (first c)))
   video-is = c .read-video .ensures ∙ rw tail-part
-
-  video-within : q ≤ length (bytes (first c))
-  video-within =
-      let u = video-used (flags (first c) / 2 % 2) (flags (first c) / 16) (drop (p (first c)) (bytes (first c))) in
-      omega (arith, id-within (first c), ap (λ (v : VideoPart). v .used) video-is, rw length-drop at u)
 
 -- after the audio part, which is only passed over
 abbrev second : tie.After-pass-audio → tie.After-read-video
@@ -62,10 +52,16 @@ module _ (c : tie.After-pass-audio) where
   audio-used-is : c .pass-audio .result .used ≡ audio .used
   audio-used-is = c .pass-audio .ensures .1 ∙ rw tail-part
 
-  audio-within : q (second c) + c .pass-audio .result .used ≤ length (bytes (first (second c)))
-  audio-within =
-      let u = audio-used (flags (first (second c)) % 2) (flags (first (second c)) / 16) (drop (q (second c)) (bytes (first (second c)))) in
-      omega (arith, video-within (second c), audio-used-is, rw length-drop at u)
+-- each part ends within the bytes
+first-end : (c : tie.After-read-id) → p c ≤ length (bytes c)
+first-end c = id-within (flags c) (bytes c) _ (c .read-id .ensures)
+
+second-end : (c : tie.After-read-video) → q c ≤ length (bytes (first c))
+second-end c = video-within (flags (first c)) (bytes (first c)) _ (first c .read-id .ensures) _ (video-is c)
+
+last-end : (c : tie.After-pass-audio) → q (second c) + c .pass-audio .result .used ≤ length (bytes (first (second c)))
+last-end c =
+    audio-within (flags (first (second c))) (bytes (first (second c))) _ (first (second c) .read-id .ensures) _ (video-is (second c)) _ (audio-used-is c)
 
 read-id-requires : tie.Need-read-id-requires
 read-id-requires c κs = search needs
@@ -76,10 +72,10 @@ returns c =
     sym (ap number (parts-25 0 (flags d) (bytes d) _ (d .read-id .ensures) (not-true _ (c .if1 .taken))))
 
 sub-read-video : tie.Need-sub-read-video
-sub-read-video c = omega (arith, id-within (c .before))
+sub-read-video c = omega (arith, first-end (c .before))
 
 part-read-video-start : tie.Need-part-read-video-start
-part-read-video-start c = omega (arith, id-within (c .before))
+part-read-video-start c = omega (arith, first-end (c .before))
 
 part-read-video-end : tie.Need-part-read-video-end
 part-read-video-end c = search needs
@@ -94,13 +90,13 @@ returns-2 c =
     sym (ap number (parts-26 0 (flags d) (bytes d) _ (d .read-id .ensures) (not-false _ (e .before .before .if1 .left)) _ (video-is e) (not-true _ (c .if2 .taken))))
 
 add-q : tie.Need-add-q
-add-q c = omega (arith, video-within (c .before .before))
+add-q c = omega (arith, second-end (c .before .before))
 
 sub-pass-audio : tie.Need-sub-pass-audio
-sub-pass-audio c = omega (arith, video-within (c .before .before))
+sub-pass-audio c = omega (arith, second-end (c .before .before))
 
 part-pass-audio-start : tie.Need-part-pass-audio-start
-part-pass-audio-start c = omega (arith, video-within (c .before .before))
+part-pass-audio-start c = omega (arith, second-end (c .before .before))
 
 part-pass-audio-end : tie.Need-part-pass-audio-end
 part-pass-audio-end c = search needs
@@ -117,7 +113,7 @@ returns-3 c =
     (audio f) refl (sym (audio-ok f) ∙ not-true _ (c .if3 .taken))))
 
 add-if4 : tie.Need-add-if4
-add-if4 c = omega (arith, audio-within (c .before .before))
+add-if4 c = omega (arith, last-end (c .before .before))
 
 returns-4 : tie.Need-returns-4
 returns-4 c =

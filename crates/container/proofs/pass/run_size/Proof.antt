@@ -6,7 +6,8 @@ use native.Mathlib.Omega.{arith}
 use borrow.Author.Needs.{needs}
 use borrow.Author.Tests.{not-true, not-false}
 use lib.ListN.{length, getD, drop}
-use Rattle.container.specs.Parts.{printPart, isAlike, runOf}
+use Rattle.container.specs.Parts.{printPart, runOf}
+use Rattle.container.specs.Passing.{isAlike}
 use Rattle.container.proofs.Parts.{tail-part, PrintRight, print-right}
 use Rattle.container.proofs.Runs.{Going, going-start, going-bad}
 use Rattle.container.proofs.Passing.{print-none, print-some, right-takes, print-size, alike-takes, unlike-takes, no-run, Carried, carried-start, pass-wrong, pass-going, pass-carried, pass-within, pass-end}

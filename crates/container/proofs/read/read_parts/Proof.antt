@@ -1,16 +1,13 @@
 -- `container::read::read_parts` meets its contract: what each part says, one after the other.
 use Prim.Native.Nat.{ℕ, _+_, _/_, _%_, _≤_}
-use mathlib.Core.Path.{_≡_, refl, ap, sym, _∙_}
+use mathlib.Core.Path.{_≡_, ap, sym, _∙_}
 use mathlib.Core.List.{List}
-use mathlib.Core.Bool.{true, false}
 use native.Mathlib.Omega.{arith}
 use borrow.Author.Tests.{not-true, not-false}
-use lib.ListN.{length, drop, length-drop}
-use Rattle.container.specs.declared.IdPart.{IdPart}
-use Rattle.container.specs.declared.VideoPart.{VideoPart}
+use lib.ListN.{length, drop}
 use Rattle.container.specs.declared.AudioPart.{AudioPart}
-use Rattle.container.specs.Parts.{idPart, videoPart, audioPart}
-use Rattle.container.proofs.Parts.{tail-part, id-used, video-used, audio-used, parts-25, parts-26, parts-27, parts-28, parts-0}
+use Rattle.container.specs.Parts.{videoPart, audioPart}
+use Rattle.container.proofs.Parts.{tail-part, id-within, video-within, audio-within, parts-25, parts-26, parts-27, parts-28, parts-0}
 use borrow.Author.Needs.{needs}
 use Rattle.container.proofs.read.read_parts.Statement.{statement}
 use Rattle.container.proofs.read.read_parts.Tie as tie
@@ -29,9 +26,6 @@ module _ (c : tie.After-read-id) where
   abbrev p : ℕ
   p = c .read-id .result .used
 
-  id-within : p ≤ length bytes
-  id-within = omega (arith, id-used (flags / 4 % 2) bytes, ap (λ (i : IdPart). i .used) (c .read-id .ensures))
-
 -- after the video part
 abbrev first : tie.After-read-video → tie.After-read-id
 first c = c .before .before .before
@@ -43,11 +37,6 @@ module _ (c : tie.After-read-video) where
   video-is : c .read-video .result ≡ videoPart (flags (first c) / 2 % 2) (flags (first c) / 16) (drop (p (first c)) (bytes (first c)))
   video-is = c .read-video .ensures ∙ rw tail-part
 
-  video-within : q ≤ length (bytes (first c))
-  video-within =
-      let u = video-used (flags (first c) / 2 % 2) (flags (first c) / 16) (drop (p (first c)) (bytes (first c))) in
-      omega (arith, id-within (first c), ap (λ (v : VideoPart). v .used) video-is, rw length-drop at u)
-
 -- after the audio part
 abbrev second : tie.After-read-audio → tie.After-read-video
 second c = c .before .before .before .before
@@ -56,10 +45,16 @@ module _ (c : tie.After-read-audio) where
   audio-is : c .read-audio .result ≡ audioPart (flags (first (second c)) % 2) (flags (first (second c)) / 16) (drop (q (second c)) (bytes (first (second c))))
   audio-is = c .read-audio .ensures ∙ rw tail-part
 
-  audio-within : q (second c) + c .read-audio .result .used ≤ length (bytes (first (second c)))
-  audio-within =
-      let u = audio-used (flags (first (second c)) % 2) (flags (first (second c)) / 16) (drop (q (second c)) (bytes (first (second c)))) in
-      omega (arith, video-within (second c), ap (λ (a : AudioPart). a .used) audio-is, rw length-drop at u)
+-- each part ends within the bytes
+first-end : (c : tie.After-read-id) → p c ≤ length (bytes c)
+first-end c = id-within (flags c) (bytes c) _ (c .read-id .ensures)
+
+second-end : (c : tie.After-read-video) → q c ≤ length (bytes (first c))
+second-end c = video-within (flags (first c)) (bytes (first c)) _ (first c .read-id .ensures) _ (video-is c)
+
+last-end : (c : tie.After-read-audio) → q (second c) + c .read-audio .result .used ≤ length (bytes (first (second c)))
+last-end c =
+    audio-within (flags (first (second c))) (bytes (first (second c))) _ (first (second c) .read-id .ensures) _ (video-is (second c)) _ (ap (λ (a : AudioPart). a .used) (audio-is c))
 
 read-id-requires : tie.Need-read-id-requires
 read-id-requires c κs = search needs
@@ -73,10 +68,10 @@ returns c =
     c .refused .ensures ∙ sym (parts-25 (counter d) (flags d) (bytes d) _ (d .read-id .ensures) (not-true _ (c .before .if1 .taken)))
 
 sub-read-video : tie.Need-sub-read-video
-sub-read-video c = omega (arith, id-within (c .before))
+sub-read-video c = omega (arith, first-end (c .before))
 
 part-read-video-start : tie.Need-part-read-video-start
-part-read-video-start c = omega (arith, id-within (c .before))
+part-read-video-start c = omega (arith, first-end (c .before))
 
 part-read-video-end : tie.Need-part-read-video-end
 part-read-video-end c = search needs
@@ -95,13 +90,13 @@ returns-2 c =
     ∙ sym (parts-26 (counter d) (flags d) (bytes d) _ (d .read-id .ensures) (not-false _ (e .before .before .if1 .left)) _ (video-is e) (not-true _ (c .before .if2 .taken)))
 
 add-q : tie.Need-add-q
-add-q c = omega (arith, video-within (c .before .before))
+add-q c = omega (arith, second-end (c .before .before))
 
 sub-read-audio : tie.Need-sub-read-audio
-sub-read-audio c = omega (arith, video-within (c .before .before))
+sub-read-audio c = omega (arith, second-end (c .before .before))
 
 part-read-audio-start : tie.Need-part-read-audio-start
-part-read-audio-start c = omega (arith, video-within (c .before .before))
+part-read-audio-start c = omega (arith, second-end (c .before .before))
 
 part-read-audio-end : tie.Need-part-read-audio-end
 part-read-audio-end c = search needs
@@ -122,7 +117,7 @@ returns-3 c =
     _ (audio-is f) (not-true _ (c .before .if3 .taken)))
 
 add-if4 : tie.Need-add-if4
-add-if4 c = omega (arith, audio-within (c .before .before))
+add-if4 c = omega (arith, last-end (c .before .before))
 
 refused-requires-4 : tie.Need-refused-requires-4
 refused-requires-4 c κs = search needs
