@@ -30,12 +30,13 @@ bench: ## speed beside plain Rust programs (docs/PERFORMANCE.md)
 	bench/audio.sh
 	bench/session.sh
 	bench/transport.sh
+	bench/mend.sh
 
 N ?= 100
 fuzz: ## card beside the second program on N (100) new random feeds of each kind; one on which they differ is kept under target/fuzz/
-	@tools/need rt "proving card and inspect"
+	@tools/need rt "proving card, inspect and mend"
 	@tools/need cargo "the second program"
 	@tools/need python3 "the comparison"
-	rt check card inspect
+	rt check card inspect mend
 	cargo build --quiet --release --offline --manifest-path second/Cargo.toml --target-dir target/second
-	tools/compare "$$(tools/runnable target/bin/card)" --inspect "$$(tools/runnable target/bin/inspect)" --random $(N)
+	tools/compare "$$(tools/runnable target/bin/card)" --inspect "$$(tools/runnable target/bin/inspect)" --mend "$$(tools/runnable target/bin/mend)" --random $(N)

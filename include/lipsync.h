@@ -1,6 +1,6 @@
 /*
- * The lip-sync card's containers, ancillary and transport packets, line sampling and monitored lines, for a host in C or C++ on x86-64 Linux. Link with
- * liblipsync.a or liblipsync.so (`make lib`).
+ * The lip-sync card's containers, ancillary and transport packets, recordings, line sampling and monitored lines, for a host in C or C++ on x86-64 Linux. Link
+ * with liblipsync.a or liblipsync.so (`make lib`).
  *
  * Every call but lipsync_is_monitored, which takes two numbers and has no refusals, has the form
  *     uint8_t f(.., const uint8_t *in, size_t length, uint8_t *out, size_t room, size_t *written)
@@ -9,7 +9,7 @@
  * `in` and `out` may be null where their length or room is 0. `written` is never null: a call with a null `written` is an error that no call checks.
  * The bytes read, the buffer written and `written` do not overlap. Calls keep nothing, so they may run at the same time.
  *
- * The seven calls are proved to answer as document 01 says, with requests A2 and A5 of 02. The inline functions of this header are plain C and only tested.
+ * The eight calls are proved to answer as document 01 says, with requests A2, A5 and A8 of 02. The inline functions of this header are plain C and only tested.
  */
 #ifndef LIPSYNC_H
 #define LIPSYNC_H
@@ -27,9 +27,9 @@ extern "C" {
  * and a new PATCH changes neither. While MAJOR is 0 a new MINOR may do what a new MAJOR may: so the shared library's name has both, liblipsync.so.MAJOR.MINOR.
  */
 #define LIPSYNC_VERSION_MAJOR 0
-#define LIPSYNC_VERSION_MINOR 4
+#define LIPSYNC_VERSION_MINOR 5
 #define LIPSYNC_VERSION_PATCH 0
-#define LIPSYNC_VERSION "0.4.0"
+#define LIPSYNC_VERSION "0.5.0"
 
 /* What a call returns. lipsync_meaning() has the words. */
 enum {
@@ -60,7 +60,10 @@ enum {
     LIPSYNC_REFUSED_UNDER_10_BYTES = 40, /* a transport packet's: */
     LIPSYNC_REFUSED_START_CODE = 41,
     LIPSYNC_REFUSED_LENGTH = 42,
-    LIPSYNC_REFUSED_CRC = 43
+    LIPSYNC_REFUSED_CRC = 43,
+
+    LIPSYNC_REFUSED_NO_FIELD = 50,      /* a recording's: no place in it starts an acceptable field */
+    LIPSYNC_REFUSED_TOO_LONG = 51
 };
 
 /* Sizes in bytes. */
@@ -69,6 +72,7 @@ enum {
     LIPSYNC_LARGEST_CONTAINER = 254, /* header 4, ID 21, video 3, audio 225, checksum 1 */
     LIPSYNC_LARGEST_PACKET = 522,    /* the largest container's: 2 x 254 + 14 */
     LIPSYNC_LARGEST_TRANSPORT = 264, /* the largest container's: 254 + 10 */
+    LIPSYNC_LONGEST_RECORDING = 65536,
     LIPSYNC_FLAT_SIZE = 283          /* a container's contents, flat */
 };
 
@@ -167,6 +171,14 @@ uint8_t lipsync_write_transport(const uint8_t *container, size_t length, uint8_t
 uint8_t lipsync_read_transport(const uint8_t *packet, size_t length, uint8_t *out, size_t room, size_t *written);
 
 /*
+ * Mends a recording: fields of 01h, two bytes of length, the high one first, and a container of that many bytes. At each place a whole field whose container
+ * is accepted is kept and passed over; otherwise one byte is dropped and the next place tried. out gets the kept fields joined, *written is their bytes.
+ * Refusals: 51 where length is above LIPSYNC_LONGEST_RECORDING, 50, then 12 where room is under the bytes kept; length is always enough. With less, what comes
+ * behind the first bytes that are dropped after a field may be gone through twice.
+ */
+uint8_t lipsync_mend(const uint8_t *recording, size_t length, uint8_t *out, size_t room, size_t *written);
+
+/*
  * Samples one line of a format: *written is LIPSYNC_LINE_SIZE. The line is lent as two bytes for each luma sample, low byte first; bits 15 to 10 are ignored,
  * and a sample counts as its bits 9 to 2, that is, the upper eight of ten. Which line it is plays no part.
  * Refusals: 1 format, 2 length not 2 x width, then 12 where room is under LIPSYNC_LINE_SIZE.
@@ -206,6 +218,8 @@ static inline const char *lipsync_meaning(uint8_t number) {
     case LIPSYNC_REFUSED_START_CODE: return "transport packet's start code";
     case LIPSYNC_REFUSED_LENGTH: return "transport packet's length";
     case LIPSYNC_REFUSED_CRC: return "transport packet's CRC";
+    case LIPSYNC_REFUSED_NO_FIELD: return "no acceptable field in the recording";
+    case LIPSYNC_REFUSED_TOO_LONG: return "recording longer than 65,536 bytes";
     default: return "no number of these calls";
     }
 }

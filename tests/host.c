@@ -1,6 +1,6 @@
 /*
- * What the host's calls answer, against document 01 with 02's A2 and A5: its figures, each refusal, short buffers between guard bytes, which lines are monitored, and
- * damaged containers and packets from a fixed seed. What is expected is worked out here from these rules, never taken from the library, and said in the header's names,
+ * What the host's calls answer, against document 01 with 02's A2, A5 and A8: its figures, each refusal, short buffers between guard bytes, which lines are monitored, and
+ * damaged containers, packets and recordings from a fixed seed. What is expected is worked out here from these rules, never taken from the library, and said in the header's names,
  * so that a wrong constant is found.
  * Prints the number of checks; the first that fails ends it. With the word `meanings` it only prints what each number means.
  */
@@ -219,6 +219,41 @@ static int judge_transport(const uint8_t *s, size_t size, size_t *n) {
     return judge_container(s + 6, *n, flat);
 }
 
+/* ---- 02, A8: the recording */
+
+/* the bytes of the acceptable field that starts here, 0 where none does */
+static size_t field_here(const uint8_t *s, size_t left) {
+    uint8_t flat[LIPSYNC_FLAT_SIZE];
+    if (left < 3 || s[0] != 0x01) return 0;
+    size_t n = 256u * s[1] + s[2];
+    if (n > left - 3 || judge_container(s + 3, n, flat) != LIPSYNC_OK) return 0;
+    return n + 3;
+}
+
+/* 50 is asked of every place, and not of the walk */
+static int judge_recording(const uint8_t *s, size_t size, uint8_t *kept, size_t *n) {
+    int any = 0;
+    *n = 0;
+    if (size > LIPSYNC_LONGEST_RECORDING) return LIPSYNC_REFUSED_TOO_LONG;
+    for (size_t at = 0; at < size; at++) any |= field_here(s + at, size - at) != 0;
+    if (!any) return LIPSYNC_REFUSED_NO_FIELD;
+    for (size_t at = 0; at < size;) {
+        size_t field = field_here(s + at, size - at);
+        if (field) memcpy(kept + *n, s + at, field);
+        *n += field;
+        at += field ? field : 1;
+    }
+    return LIPSYNC_OK;
+}
+
+static size_t field(const uint8_t *c, size_t n, uint8_t *s) {
+    s[0] = 0x01;
+    s[1] = (uint8_t)(n / 256);
+    s[2] = (uint8_t)(n % 256);
+    memcpy(s + 3, c, n);
+    return n + 3;
+}
+
 /* ---- calls, each compared with what 01 says, at some room */
 
 static int seen[64];
@@ -301,6 +336,25 @@ static void try_unstream(const uint8_t *s, size_t n, size_t room) {
     if (number == 0) {
         CHECK(lipsync_write_transport(out, written, again, sizeof again, &rewritten) == 0);
         CHECK(rewritten == n && memcmp(again, s, n) == 0);
+    }
+}
+
+static void try_mend(const uint8_t *s, size_t n, size_t room) {
+    static uint8_t kept[MOST], again[MOST], copy[MOST];
+    size_t written = 99, size, rewritten = 99;
+    if (n) memcpy(copy, s, n);
+    int expected = judge_recording(s, n, kept, &size);
+    if (expected == LIPSYNC_OK && room < size) expected = LIPSYNC_REFUSED_ROOM;
+    uint8_t *out = lend();
+    int number = lipsync_mend(s, n, out, room, &written);
+    seen[number]++;
+    CHECK(number == expected);
+    CHECK(written == (number == 0 ? size : 0));
+    CHECK(holds(kept, written));
+    CHECK(n == 0 || memcmp(copy, s, n) == 0);
+    if (number == 0) {
+        CHECK(lipsync_mend(out, written, again, sizeof again, &rewritten) == 0);
+        CHECK(rewritten == written && memcmp(again, out, written) == 0);
     }
 }
 
@@ -636,6 +690,66 @@ static void transport(void) {
     longest();
 }
 
+/* of the longest recordings, and of a byte more; between guard bytes of their own */
+static void longest_recordings(void) {
+    static uint8_t s[LIPSYNC_LONGEST_RECORDING + 1], lent[GUARD + LIPSYNC_LONGEST_RECORDING + GUARD], kept[LIPSYNC_LONGEST_RECORDING];
+    static const uint8_t smallest[] = {0x01, 0x00, 0x05, 0x00, 0x00, 0x02, 0x50, 0xAE}, refused[] = {0x01, 0x00, 0xFE, 0x00, 0x07, 0xFB};
+    uint8_t *out = lent + GUARD;
+    for (int turn = 0; turn < 6; turn++) {
+        size_t n = LIPSYNC_LONGEST_RECORDING, size, written = 99;
+        for (size_t i = 0; i <= n; i++)
+            s[i] = turn == 0 ? 0x01 : turn == 1 ? (uint8_t)(i % 2 ? 0xFF : 0x01) : turn == 2 ? refused[i % 6] : turn == 3 ? smallest[i % 8] : turn == 4 ? smallest[(i + 1) % 8] : 0;
+        if (turn == 5) memcpy(s + n - 8, smallest, 8); /* at the last place that has room for one */
+        int expected = judge_recording(s, n, kept, &size);
+        CHECK(expected == (turn < 3 ? LIPSYNC_REFUSED_NO_FIELD : LIPSYNC_OK));
+        CHECK(size == (turn < 3 ? 0u : turn == 3 ? n : turn == 4 ? n - 8 : 8));
+        memset(lent, FILL, sizeof lent);
+        CHECK(lipsync_mend(s, n, out, n, &written) == expected && written == size);
+        CHECK(memcmp(out, kept, size) == 0);
+        for (size_t i = 0; i < sizeof lent; i++) CHECK((i >= GUARD && i < GUARD + size) || lent[i] == FILL);
+        if (size) CHECK(lipsync_mend(s, n, lend(), size < MOST ? size - 1 : MOST, &written) == LIPSYNC_REFUSED_ROOM && written == 0 && untouched());
+        written = 99;
+        CHECK(lipsync_mend(s, n + 1, out, 0, &written) == LIPSYNC_REFUSED_TOO_LONG && written == 0); /* before 50 and before 12 */
+        CHECK(lipsync_mend(s, n + 1, lend(), MOST, &written) == LIPSYNC_REFUSED_TOO_LONG && untouched());
+        seen[LIPSYNC_REFUSED_TOO_LONG]++;
+    }
+}
+
+static void recordings(void) {
+    const uint8_t bare[] = {0x00, 0x00, 0x02, 0x50, 0xAE}, head[] = {0x01, 0x00, 0x05, 0x00, 0x00, 0x02, 0x50, 0xAE};
+    uint8_t s[MOST], c[MOST];
+    size_t written = 99, n = field(bare, 5, s);
+    CHECK(n == 8 && memcmp(s, head, 8) == 0);
+    CHECK(lipsync_mend(s, 8, lend(), MOST, &written) == LIPSYNC_OK && written == 8 && holds(head, 8));
+    CHECK(lipsync_mend(NULL, 0, lend(), MOST, &written) == LIPSYNC_REFUSED_NO_FIELD && written == 0 && untouched());
+    CHECK(lipsync_mend(NULL, 0, NULL, 0, &written) == LIPSYNC_REFUSED_NO_FIELD && lipsync_mend(s, 8, NULL, 0, &written) == LIPSYNC_REFUSED_ROOM);
+    for (size_t room = 0; room < 20; room++) try_mend(s, n, room);
+    n += field(bare, 5, s + n);
+    for (size_t k = 0; k < n; k++) { /* each byte of two fields, to each other value */
+        uint8_t right = s[k];
+        for (unsigned other = 1; other < 256; other++) {
+            s[k] = right ^ (uint8_t)other;
+            try_mend(s, n, MOST);
+            CHECK(lipsync_mend(s, n, lend(), MOST, &written) == LIPSYNC_OK && written == 8 && holds(head, 8));
+        }
+        s[k] = right;
+    }
+    n += field(c, full(LIPSYNC_RATE_25, c), s + n);
+    for (size_t cut = 0; cut <= n; cut++) {
+        try_mend(s, cut, MOST);
+        try_mend(s + cut, n - cut, MOST);
+    }
+    /* a field within the ID of a container: the outer one is kept whole; with its checksum wrong the inner one */
+    const uint8_t outer[] = {0x00, 0x07, 0x00, 0x54, 0x00, 0x01, 0x00, 0x05, 0x00, 0x00, 0x02, 0x50, 0xAE, 0, 0, 0, 0, 0, 0, 0, 0, 0, 0, 0, 0, 0};
+    memcpy(c, outer, sizeof outer);
+    close_up(c, sizeof outer);
+    n = field(c, sizeof outer, s);
+    CHECK(lipsync_mend(s, n, lend(), MOST, &written) == LIPSYNC_OK && written == n && holds(s, n));
+    s[n - 1] ^= 1;
+    CHECK(lipsync_mend(s, n, lend(), MOST, &written) == LIPSYNC_OK && written == 8 && holds(head, 8));
+    longest_recordings();
+}
+
 static void rooms(void) {
     const uint8_t bare[] = {0x00, 0x00, 0x02, 0x50, 0xAE};
     unsigned words[12];
@@ -764,6 +878,20 @@ static void damaged_transport(const uint8_t *c, size_t n, size_t room) {
     try_unstream(s, size, room);
 }
 
+/* up to four fields with damage and other bytes between */
+static void damaged_recording(size_t room) {
+    uint8_t s[MOST], c[MOST];
+    size_t n = 0;
+    for (unsigned fields = 1 + below(4); fields; fields--) {
+        n += field(c, made(c), s + n);
+        if (below(4) == 0) n -= below(9);
+        if (below(4) == 0)
+            for (unsigned i = below(5); i; i--) s[n++] = below(2) ? 0x01 : (uint8_t)below(256);
+    }
+    if (n && below(2)) s[below((uint32_t)n)] = below(2) ? 0x01 : (uint8_t)below(256);
+    try_mend(s, n, room);
+}
+
 static void damage(void) {
     uint8_t s[MOST], p[2 * MOST];
     unsigned w[MOST];
@@ -780,6 +908,7 @@ static void damage(void) {
         try_wrap(s, n, room);
         try_stream(s, n, room);
         damaged_transport(s, n, room);
+        if (turn % 4 == 0) damaged_recording(below(4) ? MOST : below(600));
         size_t words = wrap(s, n, w), size;
         switch (below(6)) {
         case 0: w[below((uint32_t)words)] ^= 1u << below(10); break;
@@ -793,8 +922,9 @@ static void damage(void) {
         if (below(20) == 0 && size) size--;
         try_unwrap(p, size, room);
     }
-    for (int number = 20; number <= 43; number++)
-        if (number != 29 && (number <= 36 || number >= 40)) CHECK(seen[number] > 50);
+    for (int number = 20; number <= 50; number++)
+        if (number != 29 && (number <= 36 || number >= 40) && (number <= 43 || number == 50)) CHECK(seen[number] > 50);
+    CHECK(seen[LIPSYNC_REFUSED_TOO_LONG] > 0);
     CHECK(seen[LIPSYNC_OK] > 10000 && seen[LIPSYNC_REFUSED_ROOM] > 1000);
 }
 
@@ -809,6 +939,7 @@ int main(int many, char **words) {
     container_refusals();
     packet_refusals();
     transport();
+    recordings();
     rooms();
     lines();
     monitored();

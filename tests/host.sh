@@ -31,7 +31,7 @@ python3 -B - > "$build/tables" <<'END'
 import sys
 sys.path.insert(0, "tools")
 import tables
-calls = {number for call in ("sample", "read", "wrap", "unwrap", "stream", "unstream") for number in tables.NUMBERS[call]}
+calls = {number for call in ("sample", "read", "wrap", "unwrap", "stream", "unstream") for number in tables.NUMBERS[call]} | set(tables.MENDED)
 words = {**tables.REFUSALS, 0: "accepted", 1: "no format of this number"}
 for number in range(256):
     print(number, words[number] if number in calls else "no number of these calls")

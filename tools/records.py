@@ -39,10 +39,10 @@ def leave(name, fault):
     os._exit(1)
 
 
-def pour(parts, name):
+def pour(parts, name, thing="feed", file="x.feed", reader="card"):
     """Writes records to standard output, unless that is a terminal."""
     if sys.stdout.isatty():
-        sys.exit("%s: a feed is no text: give a file (> x.feed) or a program (| target/bin/card)" % name)
+        sys.exit("%s: a %s is no text: give a file (> %s) or a program (| target/bin/%s)" % (name, thing, file, reader))
     try:
         for part in parts:
             sys.stdout.buffer.write(part)

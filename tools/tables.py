@@ -7,6 +7,7 @@
   RULES[number]      how a mixing rule rounds
   REFUSALS[number]   what a refusal means
   NUMBERS[call]      the numbers that a call can answer, in the papers' order
+  MENDED             the numbers that the program `mend` can tell, in the papers' order
 
 All in the papers' words and order; nothing here is taken from a program.
 """
@@ -68,7 +69,7 @@ MIXES = {1: Mix(1, "mono", 1, "mono"), 2: Mix(2, "stereo", 2, "stereo"), 5: Mix(
 # 01, Audio; 02, A9.
 RULES = {1: "down, towards minus infinity", 2: "towards zero"}
 
-# 01, "What a caller is told", as 02's A3 (14), A5 (40 to 43), A7 and A9 (1) leave it.
+# 01, "What a caller is told", as 02's A3 (14), A5 (40 to 43), A7, A8 (50, 51) and A9 (1) leave it.
 REFUSALS = {
     1: "format, rate pairing, mixing rule, fingerprint count or mix type not listed, or a session that is not set up",
     2: "line length not 2 x width",
@@ -103,10 +104,13 @@ REFUSALS = {
     41: "transport packet's start code",
     42: "transport packet's length",
     43: "transport packet's CRC",
+    50: "no acceptable field in the recording",
+    51: "recording longer than 65,536 bytes",
 }
 
 READING = tuple(range(20, 29))
-# 01, "What a caller is told", as 02's A3 (instant), A5 (stream, unstream) and A7 (pack, write) leave it: the numbers of each call as the feed names it, 0 for success.
+# 01, "What a caller is told", as 02's A3 (instant), A5 (stream, unstream), A7 (pack, write) and A8 (mend) leave it: the numbers of each call as the feed names it,
+# 0 for success. 51 is none of them, since no record holds so long a recording.
 NUMBERS = {
     "setup": (0, 1),
     "line": (0, 1, 2, 3, 4, 5),
@@ -121,7 +125,10 @@ NUMBERS = {
     "write": (0, 29, 12),
     "stream": (0, *READING, 12),
     "unstream": (0, *range(40, 44), *READING, 12),
+    "mend": (0, 50, 12),
 }
+# 02, A8: the program only reports, so that no room can be too short (12); 0 where it tells what is dropped and kept.
+MENDED = (0, 51, 50)
 
 
 def format_named(name):

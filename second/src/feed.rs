@@ -7,7 +7,7 @@ use crate::exact::{self, Tally};
 use crate::float::Float;
 use crate::session::{self, Session};
 use crate::video::{self, FieldEnd};
-use crate::{audio, inspect, packet, transport};
+use crate::{audio, inspect, packet, recording, transport};
 
 pub const MOST_ROOM: usize = 4096;
 pub const FLAT_SIZE: usize = 283;
@@ -214,12 +214,12 @@ impl Desk {
     }
 }
 
-/// The calls on containers and packets, which touch no session.
+/// The calls on containers, packets and recordings, which touch no session.
 fn by_itself(tag: u8, part: &mut Payload) -> Result<String, BadRecord> {
     if tag == 0x21 {
         return Ok(inspect::line(part.0));
     }
-    if !(0x22..=0x27).contains(&tag) {
+    if !(0x22..=0x28).contains(&tag) {
         return Err(BadRecord);
     }
     let room = part.room()?;
@@ -229,6 +229,7 @@ fn by_itself(tag: u8, part: &mut Payload) -> Result<String, BadRecord> {
         0x24 => written("unwrap", packet::read(part.0, room)),
         0x26 => written("stream", transport::write(part.0, room)),
         0x27 => written("unstream", transport::read(part.0, room)),
+        0x28 => written("mend", recording::mend(part.0, room)),
         _ => written("write", container::write(&flat_contents(part)?, room)),
     })
 }

@@ -17,6 +17,9 @@ mod formats;
 mod inspect;
 mod make;
 mod packet;
+mod recording;
+#[cfg(test)]
+mod recording_tests;
 mod session;
 mod transport;
 #[cfg(test)]
@@ -31,6 +34,7 @@ use std::process::ExitCode;
 const HELP: &str = "\
 second                  reads a feed from standard input and prints what `card` must print
 second inspect          reads up to 300 bytes of standard input as a container and prints one line
+second mend             reads up to 65,537 bytes of standard input as a recording and prints what `mend` must print
 second exact            reads a feed and holds every audio bit and filter value to the exact filters
 second make KIND SEED   writes a random feed; the same KIND and SEED always give the same bytes
 second kinds            prints the names of the kinds
@@ -48,6 +52,11 @@ fn run_inspect() -> io::Result<ExitCode> {
     let mut bytes = Vec::new();
     io::stdin().lock().take(inspect::MOST_INPUT as u64).read_to_end(&mut bytes)?;
     println!("{}", inspect::line(&bytes));
+    Ok(ExitCode::SUCCESS)
+}
+
+fn run_mend() -> io::Result<ExitCode> {
+    print!("{}", recording::report_on(io::stdin().lock())?);
     Ok(ExitCode::SUCCESS)
 }
 
@@ -85,6 +94,7 @@ fn main() -> io::Result<ExitCode> {
     match words[..] {
         [] => run_feed(),
         ["inspect"] => run_inspect(),
+        ["mend"] => run_mend(),
         ["exact"] => run_exact(),
         ["make", kind, seed] => run_make(kind, seed),
         ["kinds"] => {

@@ -154,7 +154,7 @@ fn largest() -> Vec<u8> {
 }
 
 /// A container for each of 20 to 28, and one that is accepted.
-fn containers() -> Vec<(Option<u8>, Vec<u8>)> {
+pub fn containers() -> Vec<(Option<u8>, Vec<u8>)> {
     let mended = |body: &[u8]| {
         let mut bytes = body.to_vec();
         container::mend(&mut bytes, true);
@@ -408,5 +408,5 @@ fn the_records_and_their_lines() {
         let long = record(tag, &room(4096, &vec![0; 65_533]));
         assert_eq!(printed(&long), if tag == 0x26 { "stream 22\n" } else { "unstream 41\n" });
     }
-    assert_eq!(printed(&record(0x28, &room(300, &BARE))), "bad record\n");
+    assert_eq!(printed(&record(0x29, &room(300, &BARE))), "bad record\n");
 }

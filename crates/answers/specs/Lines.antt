@@ -11,7 +11,7 @@ use Rattle.text.specs.Lines.{item, space, newline}
 use Rattle.picture.specs.declared.Told.{Told}
 use Rattle.picture.specs.declared.Told.the-variants.{Open, Nothing, Value}
 use Rattle.answers.specs.declared.Hand.{Hand}
-use Rattle.answers.specs.declared.Hand.the-variants.{Pack, Sample, Rewrite, Wrap, Unwrap, Write, Stream, Unstream}
+use Rattle.answers.specs.declared.Hand.the-variants.{Pack, Sample, Rewrite, Wrap, Unwrap, Write, Stream, Unstream, Mend}
 use Rattle.answers.specs.declared.Answer.{Answer}
 use Rattle.answers.specs.declared.Answer.the-variants.{Setup, Line, Sound, Instant, VideoRestart, AudioRestart, Handed, Reported, Bad, Finished}
 use Rattle.answers.specs.Words.{setup, line, sound, instant, field, brighter, darker, fieldNone, videoRestart, audioRestart, spilled, bad}
@@ -43,6 +43,7 @@ handRow Unwrap = 117 ∷ 110 ∷ 119 ∷ 114 ∷ 97 ∷ 112 ∷ 32 ∷ 32 ∷ 32
 handRow Write = 119 ∷ 114 ∷ 105 ∷ 116 ∷ 101 ∷ 32 ∷ 32 ∷ 32 ∷ 32 ∷ []
 handRow Stream = 115 ∷ 116 ∷ 114 ∷ 101 ∷ 97 ∷ 109 ∷ 32 ∷ 32 ∷ 32 ∷ []
 handRow Unstream = 117 ∷ 110 ∷ 115 ∷ 116 ∷ 114 ∷ 101 ∷ 97 ∷ 109 ∷ 32 ∷ []
+handRow Mend = 109 ∷ 101 ∷ 110 ∷ 100 ∷ 32 ∷ 32 ∷ 32 ∷ 32 ∷ 32 ∷ []
 
 abbrev pub handSize : Hand → ℕ
 handSize Pack = 5
@@ -53,6 +54,7 @@ handSize Unwrap = 7
 handSize Write = 6
 handSize Stream = 7
 handSize Unstream = 9
+handSize Mend = 5
 
 unfoldable pub handWord : Hand → List ℕ
 handWord hand = take (handSize hand) (handRow hand)

@@ -28,6 +28,7 @@ pub enum Hand {
     Write,
     Stream,
     Unstream,
+    Mend,
 }
 
 // What the call of a record answers. Bytes that it hands out lie at the front of the work buffer.

@@ -62,6 +62,7 @@ fn hand_row(hand: Hand) -> [u8; 9]
         Hand::Write => *b"write    ",
         Hand::Stream => *b"stream   ",
         Hand::Unstream => *b"unstream ",
+        Hand::Mend => *b"mend     ",
     }
 }
 
@@ -77,6 +78,7 @@ fn hand_size(hand: Hand) -> usize
         Hand::Write => 6,
         Hand::Stream => 7,
         Hand::Unstream => 9,
+        Hand::Mend => 5,
     }
 }
 

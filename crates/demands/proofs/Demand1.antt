@@ -17,6 +17,7 @@ use Rattle.packet.specs.Writing as packet
 use Rattle.packet.specs.Reading as packets
 use Rattle.transport.specs.Writing as transport
 use Rattle.transport.specs.Reading as transports
+use Rattle.mending.specs.Mending.{mended, mendNumber, mendDone, mendOut}
 use Rattle.host.specs.Host as host
 use Rattle.session.specs.declared.Session.{Session}
 use Rattle.session.specs.Session.{emptySession, setupOf}
@@ -82,6 +83,11 @@ pub refused-transport-read : (s out : List ℕ) → (transports.readDone s (leng
 unfolding transports.readDone transports.readOut doneWith
 refused-transport-read s out h = refusals.nothing-written (transports.readNumber s (length out)) (transports.containerBytes s) out h
 
+-- And of Mend (02, A8).
+pub refused-mend : (s out : List ℕ) → (mendDone s (length out) .number ≡ 0 → ⊥) → (mendDone s (length out) .written ≡ 0) × (mendOut s out ≡ out)
+unfolding mendDone mendOut doneWith
+refused-mend s out h = refusals.nothing-written (mendNumber s (length out)) (mended s) out h
+
 -- And of Read container as the host calls it, its contents flat.
 pub refused-flat-reading : (s out : List ℕ) → (host.readDone s (length out) .number ≡ 0 → ⊥)
     → (host.readDone s (length out) .written ≡ 0) × (host.readOut s out ≡ out)
@@ -92,7 +98,7 @@ refused-flat-reading s out h = refusals.nothing-written (host.readNumber s (leng
 pub no-others : (s : Session) (c : Call) → drop (answerOf s c .written) (answerOf s c .out) ≡ drop (answerOf s c .written) (lent c)
 no-others s c = refusals.no-others-after s c
 
--- and of Write, line sampling, both packet calls, both of transport packets and the host's reading
+-- and of Write, line sampling, both packet calls, both of transport packets, Mend and the host's reading
 pub write-no-others : (c : Contents) (out : List ℕ) → drop (writeDone c (length out) .written) (writeOut c out) ≡ drop (writeDone c (length out) .written) out
 unfolding writeDone writeOut
 write-no-others c out = refusals.no-others (writeNumber c (length out)) (encode c) out
@@ -121,6 +127,10 @@ pub transport-read-no-others : (s out : List ℕ)
     → drop (transports.readDone s (length out) .written) (transports.readOut s out) ≡ drop (transports.readDone s (length out) .written) out
 unfolding transports.readDone transports.readOut
 transport-read-no-others s out = refusals.no-others (transports.readNumber s (length out)) (transports.containerBytes s) out
+
+pub mend-no-others : (s out : List ℕ) → drop (mendDone s (length out) .written) (mendOut s out) ≡ drop (mendDone s (length out) .written) out
+unfolding mendDone mendOut
+mend-no-others s out = refusals.no-others (mendNumber s (length out)) (mended s) out
 
 pub flat-reading-no-others : (s out : List ℕ)
     → drop (host.readDone s (length out) .written) (host.readOut s out) ≡ drop (host.readDone s (length out) .written) out

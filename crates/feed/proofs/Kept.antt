@@ -22,6 +22,7 @@ use Rattle.packet.specs.Writing as packet
 use Rattle.packet.specs.Reading as unpacket
 use Rattle.transport.specs.Writing as stream
 use Rattle.transport.specs.Reading as unstream
+use Rattle.mending.specs.Mending.{mended, recordingNumber, mendNumber, mendDone, mendOut}
 use Rattle.container.specs.Writing.{writeDone, writeOut}
 use Rattle.session.specs.declared.Session.{Session}
 use Rattle.session.specs.declared.Packed.{Packed}
@@ -36,7 +37,7 @@ use Rattle.records.specs.Records.{byteAt, recordAt}
 use Rattle.answers.specs.declared.Cause.{Cause}
 use Rattle.answers.specs.declared.Cause.the-variants.{UnknownTag, CutShort}
 use Rattle.answers.specs.declared.Hand.{Hand}
-use Rattle.answers.specs.declared.Hand.the-variants.{Pack, Sample, Rewrite, Wrap, Unwrap, Write, Stream, Unstream}
+use Rattle.answers.specs.declared.Hand.the-variants.{Pack, Sample, Rewrite, Wrap, Unwrap, Write, Stream, Unstream, Mend}
 use Rattle.feed.specs.declared.Room.{Room}
 use Rattle.feed.specs.declared.Room.the-variants.{Of, Not}
 use Rattle.feed.specs.declared.Brought.{Brought}
@@ -45,7 +46,7 @@ use Rattle.answers.specs.declared.Answer.{Answer}
 use Rattle.answers.specs.declared.Answer.the-variants.{Setup, Line, Sound, Instant, VideoRestart, AudioRestart, Handed, Reported, Bad, Finished}
 use Rattle.feed.specs.declared.Answered.{Answered}
 use Rattle.answers.specs.Lines.{untouched, fresh, isUntouched, Quiet}
-use Rattle.feed.specs.Alone.{Reply, inWork, roomAt, sampleLent, sampleIn, sampleFed, readFed, rewriteDone, rewriteOut, writeLent, lentFed, roomIn, roomFed, aloneFed}
+use Rattle.feed.specs.Alone.{Reply, inWork, roomAt, sampleLent, sampleIn, sampleFed, readFed, rewriteDone, rewriteOut, writeLent, carriedFed, lentFed, roomIn, roomFed, aloneFed}
 use Rattle.feed.specs.Values.{instantIn}
 use Rattle.feed.specs.Calls.{Step, begun, lined, sounded, instanted, doneOf, packed, setupFed, ruledFed, lineFed, soundFed, packIn, packFed, restartFed, instantWith, instantFed, sessionFed}
 use Rattle.feed.specs.Feed.{leaves, fed, recordFed, front}
@@ -101,6 +102,10 @@ stream-kept bytes lent = call-kept (reading bytes .number) (stream.transportByte
 pub unstream-kept : (bytes lent : List ℕ) → Kept lent (unstream.readDone bytes (length lent) .written) (unstream.readOut bytes lent)
 unfolding unstream.readDone unstream.readOut unstream.readNumber
 unstream-kept bytes lent = call-kept (unstream.innerNumber bytes) (unstream.containerBytes bytes) lent
+
+pub mend-kept : (recording lent : List ℕ) → Kept lent (mendDone recording (length lent) .written) (mendOut recording lent)
+unfolding mendDone mendOut mendNumber
+mend-kept recording lent = call-kept (recordingNumber recording) (mended recording) lent
 
 pub rewrite-kept : (bytes lent : List ℕ) → Kept lent (rewriteDone bytes (length lent) .written) (rewriteOut bytes lent)
 unfolding rewriteDone rewriteOut
@@ -175,18 +180,26 @@ bad-in : (cause : Cause) (room : ℕ) → InRoom room (record { answer = Bad cau
 unfolding Quiet
 bad-in cause room = back (Bad cause) room (omega arith)
 
+carried-in : (tag : ℕ) (rest : List ℕ) (room : ℕ) → InRoom room (carriedFed tag rest (untouched room))
+unfolding carriedFed
+carried-in tag rest room =
+    let P : Reply → Type 0 = InRoom room in
+    let lent : List ℕ = untouched room in
+    chosen P (eqb tag 0x23) _ _ (λ _. handed-in Wrap _ room _ (wrap-kept rest lent))
+    (λ _. chosen P (eqb tag 0x24) _ _ (λ _. handed-in Unwrap _ room _ (unwrap-kept rest lent))
+    (λ _. chosen P (eqb tag 0x26) _ _ (λ _. handed-in Stream _ room _ (stream-kept rest lent))
+    (λ _. chosen P (eqb tag 0x27) _ _ (λ _. handed-in Unstream _ room _ (unstream-kept rest lent))
+    (λ _. chosen P (eqb tag 0x28) _ _ (λ _. handed-in Mend _ room _ (mend-kept rest lent))
+    (λ _. bad-in _ room)))))
+
 pub lent-in : (tag : ℕ) (rest : List ℕ) (room : ℕ) → InRoom room (lentFed tag rest (untouched room))
 unfolding lentFed writeLent
 lent-in tag rest room =
     let P : Reply → Type 0 = InRoom room in
     let lent : List ℕ = untouched room in
     chosen P (eqb tag 0x22) _ _ (λ _. handed-in Rewrite _ room _ (rewrite-kept rest lent))
-    (λ _. chosen P (eqb tag 0x23) _ _ (λ _. handed-in Wrap _ room _ (wrap-kept rest lent))
-    (λ _. chosen P (eqb tag 0x24) _ _ (λ _. handed-in Unwrap _ room _ (unwrap-kept rest lent))
     (λ _. chosen P (eqb tag 0x25) _ _ (λ _. chosen P (unflat rest .ok) _ _ (λ _. handed-in Write _ room _ (write-kept (unflat rest .contents) lent)) (λ _. bad-in _ room))
-    (λ _. chosen P (eqb tag 0x26) _ _ (λ _. handed-in Stream _ room _ (stream-kept rest lent))
-    (λ _. chosen P (eqb tag 0x27) _ _ (λ _. handed-in Unstream _ room _ (unstream-kept rest lent))
-    (λ _. bad-in _ room))))))
+    (λ _. carried-in tag rest room))
 
 -- ---- every record
 
@@ -222,7 +235,7 @@ unfolding aloneFed sampleFed readFed roomFed Quiet
 alone-held tag p =
     chosen HeldReply (eqb tag 0x20) _ _ (λ _. sample-held p (roomAt p 1) refl)
     (λ _. chosen HeldReply (eqb tag 0x21) _ _ (λ _. held-work (Reported (length (reported (reading p)))) (reported (reading p)) (omega (arith, reported-size (reading p))) (omega arith))
-    (λ _. chosen HeldReply (ltb 0x27 tag) _ _ (λ _. bad-held (UnknownTag tag))
+    (λ _. chosen HeldReply (ltb 0x28 tag) _ _ (λ _. bad-held (UnknownTag tag))
     (λ _. room-held tag p (roomAt p 0) refl)))
 
 pack-held : (s : Session) (p : List ℕ) (r : Room) → roomAt p 0 ≡ r → HeldStep (packIn s p r)

@@ -1,4 +1,4 @@
--- The calls that touch no session: tags 20h to 27h (FEED's table).
+-- The calls that touch no session: tags 20h to 28h (FEED's table).
 use Prim.Native.Nat.{ℕ, _+_}
 use mathlib.Core.List.{List}
 use mathlib.Core.Bool.{cond}
@@ -14,11 +14,12 @@ use Rattle.packet.specs.Writing as packet
 use Rattle.packet.specs.Reading.{readDone, readOut}
 use Rattle.transport.specs.Writing as stream
 use Rattle.transport.specs.Reading as unstream
+use Rattle.mending.specs.Mending.{mendDone, mendOut}
 use Rattle.flat.specs.Unflat.{unflat}
 use Rattle.report.specs.Report.{reported}
 use Rattle.answers.specs.declared.Cause.{Cause}
 use Rattle.answers.specs.declared.Cause.the-variants.{UnknownTag, TooShort, TooLong, RoomAbove, IdPresent, VideoValues, UnusedPlace}
-use Rattle.answers.specs.declared.Hand.the-variants.{Sample, Rewrite, Wrap, Unwrap, Write, Stream, Unstream}
+use Rattle.answers.specs.declared.Hand.the-variants.{Sample, Rewrite, Wrap, Unwrap, Write, Stream, Unstream, Mend}
 use Rattle.feed.specs.declared.Room.{Room}
 use Rattle.feed.specs.declared.Room.the-variants.{Of, Not}
 use Rattle.answers.specs.declared.Answer.{Answer}
@@ -84,16 +85,22 @@ writeLent bytes lent =
     (reply (Handed Write (container.writeDone (unflat bytes .contents) (length lent))) (container.writeOut (unflat bytes .contents) lent))
     (reply (Bad (flatCause bytes)) lent)
 
--- the calls from 22h on, with what follows the room and the buffer lent; 23h: "Write packet"; 24h: "Read packet"; 26h: "Write transport packet"; 27h: "Read transport packet"
+-- a container carried in a packet or a recording. 23h: "Write packet"; 24h: "Read packet"; 26h: "Write transport packet"; 27h: "Read transport packet"; 28h: "Mend"
+unfoldable pub carriedFed : ℕ → List ℕ → List ℕ → Reply
+carriedFed tag rest lent =
+    cond (eqb tag 0x23) (reply (Handed Wrap (packet.writeDone rest (length lent))) (packet.writeOut rest lent))
+    (cond (eqb tag 0x24) (reply (Handed Unwrap (readDone rest (length lent))) (readOut rest lent))
+    (cond (eqb tag 0x26) (reply (Handed Stream (stream.writeDone rest (length lent))) (stream.writeOut rest lent))
+    (cond (eqb tag 0x27) (reply (Handed Unstream (unstream.readDone rest (length lent))) (unstream.readOut rest lent))
+    (cond (eqb tag 0x28) (reply (Handed Mend (mendDone rest (length lent))) (mendOut rest lent))
+    (reply (Bad (UnknownTag tag)) lent)))))
+
+-- the calls from 22h on, with what follows the room and the buffer lent
 unfoldable pub lentFed : ℕ → List ℕ → List ℕ → Reply
 lentFed tag rest lent =
     cond (eqb tag 0x22) (reply (Handed Rewrite (rewriteDone rest (length lent))) (rewriteOut rest lent))
-    (cond (eqb tag 0x23) (reply (Handed Wrap (packet.writeDone rest (length lent))) (packet.writeOut rest lent))
-    (cond (eqb tag 0x24) (reply (Handed Unwrap (readDone rest (length lent))) (readOut rest lent))
     (cond (eqb tag 0x25) (writeLent rest lent)
-    (cond (eqb tag 0x26) (reply (Handed Stream (stream.writeDone rest (length lent))) (stream.writeOut rest lent))
-    (cond (eqb tag 0x27) (reply (Handed Unstream (unstream.readDone rest (length lent))) (unstream.readOut rest lent))
-    (reply (Bad (UnknownTag tag)) lent))))))
+    (carriedFed tag rest lent))
 
 -- "u16 room", then what the call is given
 unfoldable pub roomIn : ℕ → List ℕ → Room → Reply
@@ -108,5 +115,5 @@ unfoldable pub aloneFed : ℕ → List ℕ → Reply
 aloneFed tag p =
     cond (eqb tag 0x20) (sampleFed p)
     (cond (eqb tag 0x21) (readFed p)
-    (cond (ltb 0x27 tag) (reply (Bad (UnknownTag tag)) fresh)
+    (cond (ltb 0x28 tag) (reply (Bad (UnknownTag tag)) fresh)
     (roomFed tag p)))

@@ -1,9 +1,9 @@
-// The calls that touch no session: tags 20h to 27h. A call with a room is lent the first bytes of the work buffer.
+// The calls that touch no session: tags 20h to 28h. A call with a room is lent the first bytes of the work buffer.
 ghost use mathlib.Core.Path.{_≡_};
 ghost use Prim.Native.Nat.{_≤_};
 ghost use lib.ListN.{length};
 ghost use Rattle.answers.specs.Lines.{fresh};
-ghost use Rattle.feed.specs.Alone.{roomAt, sampleFed, readFed, rewriteDone, rewriteOut, flatCause, writeLent, lentFed, roomFed, aloneFed};
+ghost use Rattle.feed.specs.Alone.{roomAt, sampleFed, readFed, rewriteDone, rewriteOut, flatCause, writeLent, carriedFed, lentFed, roomFed, aloneFed};
 use crate::Room;
 use answers::Answer;
 use answers::Cause;
@@ -95,14 +95,10 @@ fn write(bytes: &[u8], lent: &mut [u8]) -> Answer
     Answer::Handed(Hand::Write, done)
 }
 
-// The calls from 22h on, with what follows the room.
-fn lend(tag: u8, rest: &[u8], lent: &mut [u8]) -> Answer
-    ensures { λ r. ⌜ (r ≡ lentFed tag (now (rest .entry)) (now (lent .entry)) .answer) × (now (lent .exit) ≡ lentFed tag (now (rest .entry)) (now (lent .entry)) .left) ⌝ }
+// A container carried in a packet or a recording.
+fn carry(tag: u8, rest: &[u8], lent: &mut [u8]) -> Answer
+    ensures { λ r. ⌜ (r ≡ carriedFed tag (now (rest .entry)) (now (lent .entry)) .answer) × (now (lent .exit) ≡ carriedFed tag (now (rest .entry)) (now (lent .entry)) .left) ⌝ }
 {
-    if tag == 0x22 {
-        let done = rewrite(rest, lent);
-        return Answer::Handed(Hand::Rewrite, done);
-    }
     if tag == 0x23 {
         let done = packet::write_packet(rest, lent);
         return Answer::Handed(Hand::Wrap, done);
@@ -110,9 +106,6 @@ fn lend(tag: u8, rest: &[u8], lent: &mut [u8]) -> Answer
     if tag == 0x24 {
         let done = packet::read_packet(rest, lent);
         return Answer::Handed(Hand::Unwrap, done);
-    }
-    if tag == 0x25 {
-        return write(rest, lent);
     }
     if tag == 0x26 {
         let done = transport::write_transport(rest, lent);
@@ -122,7 +115,25 @@ fn lend(tag: u8, rest: &[u8], lent: &mut [u8]) -> Answer
         let done = transport::read_transport(rest, lent);
         return Answer::Handed(Hand::Unstream, done);
     }
+    if tag == 0x28 {
+        let done = mending::mend(rest, lent);
+        return Answer::Handed(Hand::Mend, done);
+    }
     Answer::Bad(Cause::UnknownTag(tag))
+}
+
+// The calls from 22h on, with what follows the room.
+fn lend(tag: u8, rest: &[u8], lent: &mut [u8]) -> Answer
+    ensures { λ r. ⌜ (r ≡ lentFed tag (now (rest .entry)) (now (lent .entry)) .answer) × (now (lent .exit) ≡ lentFed tag (now (rest .entry)) (now (lent .entry)) .left) ⌝ }
+{
+    if tag == 0x22 {
+        let done = rewrite(rest, lent);
+        return Answer::Handed(Hand::Rewrite, done);
+    }
+    if tag == 0x25 {
+        return write(rest, lent);
+    }
+    carry(tag, rest, lent)
 }
 
 fn in_room(tag: u8, payload: &[u8], work: &mut [u8]) -> Answer
@@ -146,7 +157,7 @@ pub(crate) fn alone(tag: u8, payload: &[u8], work: &mut [u8]) -> Answer
     if tag == 0x21 {
         return read(payload, work);
     }
-    if 0x27 < tag {
+    if 0x28 < tag {
         return Answer::Bad(Cause::UnknownTag(tag));
     }
     in_room(tag, payload, work)

@@ -9,6 +9,7 @@ use Rattle.host.proofs.lipsync_write_packet.Reads as write-packet-reads
 use Rattle.host.proofs.lipsync_read_packet.Reads as read-packet-reads
 use Rattle.host.proofs.lipsync_write_transport.Reads as write-transport-reads
 use Rattle.host.proofs.lipsync_read_transport.Reads as read-transport-reads
+use Rattle.host.proofs.lipsync_mend.Reads as mend-reads
 use Rattle.host.proofs.lipsync_sample_line.Reads as sample-line-reads
 use Rattle.host.proofs.lipsync_is_monitored.Reads as is-monitored-reads
 
@@ -30,6 +31,9 @@ lipsync-write-transport-unique κs a r r′ s s′ p q = one-triple p q
 
 pub lipsync-read-transport-unique : OneOutcome read-transport-reads.Post {X = List ℕ × ℕ} (λ κs s. (now (s .1 .0), now (s .1 .1 .0)))
 lipsync-read-transport-unique κs a r r′ s s′ p q = one-triple p q
+
+pub lipsync-mend-unique : OneOutcome mend-reads.Post {X = List ℕ × ℕ} (λ κs s. (now (s .1 .0), now (s .1 .1 .0)))
+lipsync-mend-unique κs a r r′ s s′ p q = one-triple p q
 
 pub lipsync-sample-line-unique : OneOutcome sample-line-reads.Post {X = List ℕ × ℕ} (λ κs s. (now (s .1 .1 .0), now (s .1 .1 .1 .0)))
 lipsync-sample-line-unique κs a r r′ s s′ p q = one-triple p q

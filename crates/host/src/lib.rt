@@ -5,6 +5,7 @@ ghost use Rattle.packet.specs.Writing.{writeDone, writeOut};
 ghost use Rattle.packet.specs.Reading as packet;
 ghost use Rattle.transport.specs.Writing as transportWriting;
 ghost use Rattle.transport.specs.Reading as transportReading;
+ghost use Rattle.mending.specs.Mending.{mendDone, mendOut};
 ghost use Rattle.sampling.specs.Samples.{sampleDone, sampleOut};
 ghost use Rattle.picture.specs.Lines.{isMonitored};
 ghost use Rattle.host.specs.Host.{readDone, readOut};
@@ -94,6 +95,18 @@ pub extern "C" fn lipsync_read_transport(bytes: &[u8], out: &mut [u8], written: 
     ensures { λ _. ⌜ now (written .exit) ≡ transportReading.readDone (now (bytes .entry)) (length (now (out .entry))) .written ⌝ }
 {
     let d = transport::read_transport(bytes, out);
+    *written = d.written;
+    d.number
+}
+
+// Mend: 51, 50, 12.
+#[no_mangle]
+pub extern "C" fn lipsync_mend(recording: &[u8], out: &mut [u8], written: &mut usize) -> u8
+    ensures { λ r. ⌜ r ≡ mendDone (now (recording .entry)) (length (now (out .entry))) .number ⌝ }
+    ensures { λ _. ⌜ now (out .exit) ≡ mendOut (now (recording .entry)) (now (out .entry)) ⌝ }
+    ensures { λ _. ⌜ now (written .exit) ≡ mendDone (now (recording .entry)) (length (now (out .entry))) .written ⌝ }
+{
+    let d = mending::mend(recording, out);
     *written = d.written;
     d.number
 }

@@ -20,9 +20,9 @@ use Rattle.laws.specs.Sums.{sum}
 use Rattle.laws.proofs.Tests.{both, chosen}
 use Rattle.container_laws.proofs.Back.{accepted-is}
 use Rattle.container_laws.proofs.Gives.{reading-readable}
-use Rattle.text.specs.Lines.{item, space, newline}
-use Rattle.text.proofs.Spelled.{item-size, item-small}
-use Rattle.report.specs.Report.{okSeq, rate, id, video, audio, refused, videoText, acceptedText, refusedText, reported, inspected}
+use Rattle.text.specs.Lines.{item, space, newline, refused, refusedText}
+use Rattle.text.proofs.Spelled.{item-size, item-small, refused-size}
+use Rattle.report.specs.Report.{okSeq, rate, id, video, audio, videoText, acceptedText, reported, inspected}
 
 video-size : (v : Video) → length (videoText v) ≤ 69
 unfolding videoText
@@ -53,14 +53,10 @@ accepted-size c =
       item-size audio (c .count),
     )
 
-refused-size : (n : ℕ) → length (refusedText n) ≤ 192
-unfolding refusedText
-refused-size n = omega (arith, length-append (item refused n) newline, item-size refused n)
-
 -- no line is longer than 192, whatever the numbers
 pub reported-size : (r : Reading) → length (reported r) ≤ 192
 unfolding reported
-reported-size r = chosen (λ (l : List ℕ). length l ≤ 192) (eqb (r .number) 0) _ _ (λ _. accepted-size (r .contents)) (λ _. refused-size (r .number))
+reported-size r = chosen (λ (l : List ℕ). length l ≤ 192) (eqb (r .number) 0) _ _ (λ _. accepted-size (r .contents)) (λ _. omega (arith, refused-size (r .number)))
 
 -- a buffer of 192 bytes holds the line
 pub line-fits : (input line : List ℕ) (size : ℕ) → size ≡ length (inspected input) → line ≡ sets (replicate 192 0) 0 (inspected input) → (size ≤ length line) × (size ≡ length (take size line))

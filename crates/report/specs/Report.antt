@@ -5,7 +5,7 @@ use mathlib.Core.List.{List, [], _∷_, _++_}
 use mathlib.Core.Bool.{cond}
 use lib.Dec.{eqb}
 use lib.ListN.{take}
-use Rattle.text.specs.Lines.{item, space, newline}
+use Rattle.text.specs.Lines.{item, space, newline, refusedText}
 use Rattle.laws.specs.declared.Video.{Video}
 use Rattle.laws.specs.declared.Video.the-variants.{Absent, One, Two}
 use Rattle.container.specs.declared.Contents.{Contents}
@@ -32,10 +32,6 @@ video = 32 ∷ 118 ∷ 105 ∷ 100 ∷ 101 ∷ 111 ∷ 32 ∷ []
 abbrev pub audio : List ℕ
 audio = 32 ∷ 97 ∷ 117 ∷ 100 ∷ 105 ∷ 111 ∷ 32 ∷ []
 
--- `refused `
-abbrev pub refused : List ℕ
-refused = 114 ∷ 101 ∷ 102 ∷ 117 ∷ 115 ∷ 101 ∷ 100 ∷ 32 ∷ []
-
 unfoldable pub videoText : Video → List ℕ
 videoText Absent = item video 0
 videoText (One a) = item video 1 ++ item space a
@@ -49,9 +45,6 @@ acceptedText c =
     ++ videoText (c .video)
     ++ item audio (c .count)
     ++ newline
-
-unfoldable pub refusedText : ℕ → List ℕ
-refusedText n = item refused n ++ newline
 
 unfoldable pub reported : Reading → List ℕ
 reported r = cond (eqb (r .number) 0) (acceptedText (r .contents)) (refusedText (r .number))

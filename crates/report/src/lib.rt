@@ -4,7 +4,7 @@ ghost use lib.ListN.{length};
 ghost use lib.Seq.{sets};
 ghost use Rattle.container.specs.Reading.{reading};
 ghost use Rattle.text.specs.Lines.{Put};
-ghost use Rattle.report.specs.Report.{videoText, acceptedText, refusedText, reported, inspected};
+ghost use Rattle.report.specs.Report.{videoText, acceptedText, reported, inspected};
 use container::Contents;
 use laws::Video;
 
@@ -38,13 +38,6 @@ fn put_accepted(c: Contents, out: &mut [u8]) -> usize
     text::put(b"\n", out, s)
 }
 
-fn put_refused(number: u8, out: &mut [u8]) -> usize
-    ensures { λ r. ⌜ Put (now (out .entry)) 0 (refusedText number) (now (out .exit)) r ⌝ }
-{
-    let a = text::put_item(b"refused ", number as u64, out, 0);
-    text::put(b"\n", out, a)
-}
-
 // The line's bytes stand at the front of out, as far as out has places for them; the answer is how many there are.
 pub fn report(bytes: &[u8], out: &mut [u8]) -> usize
     ensures { λ r. ⌜ (r ≡ length (reported (reading (now (bytes .entry))))) × (now (out .exit) ≡ sets (now (out .entry)) 0 (reported (reading (now (bytes .entry))))) ⌝ }
@@ -55,7 +48,7 @@ pub fn report(bytes: &[u8], out: &mut [u8]) -> usize
     if number == 0 {
         return put_accepted(contents, out);
     }
-    put_refused(number, out)
+    text::put_refused(number, out)
 }
 
 // "Of a longer input the first 300 bytes are taken."

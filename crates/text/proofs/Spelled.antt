@@ -10,7 +10,7 @@ use lib.Dec.{ltb}
 use borrow.Author.Tests.{lt-ltb, le-ltb}
 use Rattle.laws.proofs.Tests.{chosen}
 use Rattle.text.specs.Spelling.{digitOf, digitsOf, decimalText, hexOf, hexText}
-use Rattle.text.specs.Lines.{item}
+use Rattle.text.specs.Lines.{item, newline, refused, refusedText}
 
 -- no digit; one; one more
 pub digits-none : (most n : ℕ) → most ≡ 0 → digitsOf most n ≡ []
@@ -59,9 +59,22 @@ pub item-small : (word : List ℕ) (n : ℕ) → n < 1000 → length (item word 
 unfolding item
 item-small word n h = omega (arith, length-append word (decimalText n), small-size n h)
 
+-- below 100,000 at most 5
+five-size : (n : ℕ) → n < 100000 → length (decimalText n) ≤ 5
+unfolding decimalText
+five-size n h = more-size 19 n 4 (more-size 18 (n / 10) 3 (more-size 17 (n / 10 / 10) 2 (more-size 16 (n / 10 / 10 / 10) 1 (one-digit 15 (n / 10 / 10 / 10 / 10) (omega arith)))))
+
+pub item-five : (word : List ℕ) (n : ℕ) → n < 100000 → length (item word n) ≤ length word + 5
+unfolding item
+item-five word n h = omega (arith, length-append word (decimalText n), five-size n h)
+
 pub item-size : (word : List ℕ) (n : ℕ) → length (item word n) ≤ length word + 20
 unfolding item
 item-size word n = omega (arith, length-append word (decimalText n), decimal-size n)
+
+pub refused-size : (n : ℕ) → length (refusedText n) ≤ 29
+unfolding refusedText
+refused-size n = omega (arith, length-append (item refused n) newline, item-size refused n)
 
 hex-append : (xs ys : List ℕ) → hexText (xs ++ ys) ≡ hexText xs ++ hexText ys
 unfolding hexText

@@ -30,3 +30,11 @@ space = 32 ∷ []
 
 abbrev pub newline : List ℕ
 newline = 10 ∷ []
+
+-- `refused `
+abbrev pub refused : List ℕ
+refused = 114 ∷ 101 ∷ 102 ∷ 117 ∷ 115 ∷ 101 ∷ 100 ∷ 32 ∷ []
+
+-- "A refusal prints `refused` and the number" (01), the same of 02's programs
+unfoldable pub refusedText : ℕ → List ℕ
+refusedText n = item refused n ++ newline

@@ -3,7 +3,7 @@
 ghost use mathlib.Core.Path.{_≡_};
 ghost use Prim.Native.Nat.{_<_};
 ghost use Rattle.text.specs.Spelling.{digitOf, digitsOf, decimalText, glyphOf, hexOf, hexText};
-ghost use Rattle.text.specs.Lines.{placePast, Put, item};
+ghost use Rattle.text.specs.Lines.{placePast, Put, item, refusedText};
 
 fn place_after(at: usize, size: usize) -> usize
     ensures { λ r. ⌜ r ≡ placePast at size ⌝ }
@@ -56,6 +56,14 @@ pub fn put_item(word: &[u8], n: u64, out: &mut [u8], at: usize) -> usize
 {
     let p = put(word, out, at);
     put_number(n, out, p)
+}
+
+// A refusal as a line from the front on: `refused` and its number.
+pub fn put_refused(number: u8, out: &mut [u8]) -> usize
+    ensures { λ r. ⌜ Put (now (out .entry)) 0 (refusedText number) (now (out .exit)) r ⌝ }
+{
+    let a = put_item(b"refused ", number as u64, out, 0);
+    put(b"\n", out, a)
 }
 
 // A byte in two lower-case hexadecimal digits.

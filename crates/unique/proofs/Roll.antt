@@ -42,10 +42,13 @@ use Rattle.host.proofs.lipsync_write_packet.Reads as host-lipsync-write-packet
 use Rattle.host.proofs.lipsync_read_packet.Reads as host-lipsync-read-packet
 use Rattle.host.proofs.lipsync_write_transport.Reads as host-lipsync-write-transport
 use Rattle.host.proofs.lipsync_read_transport.Reads as host-lipsync-read-transport
+use Rattle.host.proofs.lipsync_mend.Reads as host-lipsync-mend
 use Rattle.host.proofs.lipsync_sample_line.Reads as host-lipsync-sample-line
 use Rattle.host.proofs.lipsync_is_monitored.Reads as host-lipsync-is-monitored
 use Rattle.laws.proofs.copy_at.Reads as laws-copy-at
 use Rattle.laws.proofs.flag.Reads as laws-flag
+use Rattle.mending.proofs.mend.Reads as mending-mend
+use Rattle.mending.proofs.tool.report.Reads as mending-tool-report
 use Rattle.packet.proofs.write_packet.Reads as packet-write-packet
 use Rattle.packet.proofs.read_packet.Reads as packet-read-packet
 use Rattle.picture.proofs.fresh.Reads as picture-fresh
@@ -85,6 +88,7 @@ use Rattle.sound.proofs.mean.Reads as sound-mean
 use Rattle.text.proofs.put.Reads as text-put
 use Rattle.text.proofs.put_number.Reads as text-put-number
 use Rattle.text.proofs.put_item.Reads as text-put-item
+use Rattle.text.proofs.put_refused.Reads as text-put-refused
 use Rattle.text.proofs.put_hex.Reads as text-put-hex
 use Rattle.transport.proofs.write_transport.Reads as transport-write-transport
 use Rattle.transport.proofs.read_transport.Reads as transport-read-transport
@@ -99,6 +103,7 @@ use Rattle.flat.proofs.Unique as flat-theorems
 use Rattle.floats.proofs.Unique as floats-theorems
 use Rattle.host.proofs.Unique as host-theorems
 use Rattle.laws.proofs.Unique as laws-theorems
+use Rattle.mending.proofs.Unique as mending-theorems
 use Rattle.packet.proofs.Unique as packet-theorems
 use Rattle.picture.proofs.Unique as picture-theorems
 use Rattle.rates.proofs.Unique as rates-theorems
@@ -224,6 +229,9 @@ host-lipsync-write-transport-unique = host-theorems.lipsync-write-transport-uniq
 pub host-lipsync-read-transport-unique : OneOutcome host-lipsync-read-transport.Post {X = List ℕ × ℕ} (λ κs s. (now (s .1 .0), now (s .1 .1 .0)))
 host-lipsync-read-transport-unique = host-theorems.lipsync-read-transport-unique
 
+pub host-lipsync-mend-unique : OneOutcome host-lipsync-mend.Post {X = List ℕ × ℕ} (λ κs s. (now (s .1 .0), now (s .1 .1 .0)))
+host-lipsync-mend-unique = host-theorems.lipsync-mend-unique
+
 pub host-lipsync-sample-line-unique : OneOutcome host-lipsync-sample-line.Post {X = List ℕ × ℕ} (λ κs s. (now (s .1 .1 .0), now (s .1 .1 .1 .0)))
 host-lipsync-sample-line-unique = host-theorems.lipsync-sample-line-unique
 
@@ -235,6 +243,12 @@ laws-copy-at-unique = laws-theorems.copy-at-unique
 
 pub laws-flag-unique : OneResult laws-flag.Post
 laws-flag-unique = laws-theorems.flag-unique
+
+pub mending-mend-unique : OneOutcome mending-mend.Post (λ κs s. now (s .1 .0))
+mending-mend-unique = mending-theorems.mend-unique
+
+pub mending-tool-report-unique : OneOutcome mending-tool-report.Post (λ κs s. now (s .1 .0))
+mending-tool-report-unique = mending-theorems.report-unique
 
 pub packet-write-packet-unique : OneOutcome packet-write-packet.Post (λ κs s. now (s .1 .0))
 packet-write-packet-unique = packet-theorems.write-packet-unique
@@ -352,6 +366,9 @@ text-put-number-unique = text-theorems.put-number-unique
 
 pub text-put-item-unique : OneOutcome text-put-item.Post (λ κs s. now (s .1 .1 .0))
 text-put-item-unique = text-theorems.put-item-unique
+
+pub text-put-refused-unique : OneOutcome text-put-refused.Post (λ κs s. now (s .1 .0))
+text-put-refused-unique = text-theorems.put-refused-unique
 
 pub text-put-hex-unique : OneOutcome text-put-hex.Post (λ κs s. now (s .1 .0))
 text-put-hex-unique = text-theorems.put-hex-unique

@@ -2,7 +2,7 @@
 
 use super::random::Random;
 use super::script::{pairs, Script};
-use super::{containers, contents, instants, lines, packets, streams};
+use super::{containers, contents, instants, lines, packets, recordings, streams};
 use crate::feed::FLAT_SIZE;
 
 /// A call that touches no session.
@@ -62,7 +62,7 @@ fn bad_record(script: &mut Script) {
         1 => wrong_flat(script),
         2 => setup_cut_short(script),
         3 => {
-            let tag = script.random.pick(&[0x00, 0x0F, 0x18, 0x1F, 0x28, 0x30, 0xFF]);
+            let tag = script.random.pick(&[0x00, 0x0F, 0x18, 0x1F, 0x29, 0x30, 0xFF]);
             let payload = script.noise(9);
             script.record(tag, &[], &payload);
         }
@@ -101,12 +101,19 @@ pub fn broken(random: Random, _seed: u64) -> Vec<u8> {
         if script.streams.chance(40) {
             streams::one(&mut script);
         }
+        if script.recordings.chance(40) {
+            recordings::one(&mut script);
+        }
         let from = script.feed.len();
         bad_record(&mut script);
         // In place of the other, so that what is drawn after it stays what it was.
         if script.streams.chance(20) {
             script.feed.truncate(from);
             streams::malformed(&mut script);
+        }
+        if script.recordings.chance(12) {
+            script.feed.truncate(from);
+            recordings::malformed(&mut script);
         }
         good_record(&mut script);
     }

@@ -265,6 +265,16 @@ pub fn any(random: &mut Random) -> Vec<u8> {
     }
 }
 
+/// A container that is refused with this number.
+pub fn refused_with(random: &mut Random, number: u8) -> Vec<u8> {
+    loop {
+        let container = any(random);
+        if container::read(&container) == Err(number) {
+            return container;
+        }
+    }
+}
+
 /// Reading, and reading and writing again.
 pub fn container(random: Random, _seed: u64) -> Vec<u8> {
     let mut script = Script::new(random);

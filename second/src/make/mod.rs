@@ -4,6 +4,7 @@ mod broken;
 mod containers;
 mod contents;
 mod counts;
+mod fields;
 mod floats;
 mod instants;
 mod largest;
@@ -11,6 +12,7 @@ mod lines;
 mod packets;
 mod picture;
 mod random;
+mod recordings;
 mod rules;
 mod script;
 mod sessions;
@@ -30,7 +32,7 @@ const fn kind(name: &'static str, make: fn(Random, u64) -> Vec<u8>, says: &'stat
     Kind { name, says, make }
 }
 
-pub const KINDS: [Kind; 17] = [
+pub const KINDS: [Kind; 19] = [
     kind("setup", sessions::setup, "setups listed and not, calls on empty sessions"),
     kind("session", sessions::session, "sessions of every format and rate: all calls, in and out of order"),
     kind("picture", sessions::picture, "sessions of every format and rate: mostly lines and packs"),
@@ -50,8 +52,10 @@ pub const KINDS: [Kind; 17] = [
     kind("transport", streams::transport, "transport packets whole and damaged, containers wrapped"),
     kind("write", contents::write, "flat contents whole and damaged"),
     kind("counts", counts::counts, "byte counts that each rate has and has not, equal and unequal, at every call"),
+    kind("mending", recordings::mending, "recordings whole, cut and overwritten, mended"),
     kind("broken", broken::broken, "feeds with a malformed record"),
     kind("bytes", containers::bytes, "no feed: the bytes of one container, for `inspect`"),
+    kind("recording", recordings::recording, "no feed: the bytes of one recording, for `mend`"),
 ];
 
 pub fn feed(name: &str, seed: u64) -> Option<Vec<u8>> {

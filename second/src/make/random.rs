@@ -25,6 +25,11 @@ impl Random {
         Random { state: self.state.rotate_left(32) }
     }
 
+    /// A third one.
+    pub fn furthest_apart(&self) -> Random {
+        Random { state: self.state.swap_bytes() }
+    }
+
     pub fn next(&mut self) -> u64 {
         self.state = self.state.wrapping_add(0x9E37_79B9_7F4A_7C15);
         let mut z = self.state;

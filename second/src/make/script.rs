@@ -20,6 +20,8 @@ pub struct Script {
     rules: Random,
     /// For the records of transport packets alone, likewise (02, A5).
     pub streams: Random,
+    /// For the records of recordings alone, likewise (02, A8).
+    pub recordings: Random,
     /// Packs that were not refused.
     pub packs: usize,
     pub desk: Desk,
@@ -37,13 +39,14 @@ pub fn pairs() -> Vec<(u8, u8)> {
 
 impl Script {
     pub fn new(mut random: Random) -> Script {
-        let (rules, streams) = (random.apart(), random.further_apart());
+        let (rules, streams, recordings) = (random.apart(), random.further_apart(), random.furthest_apart());
         let motion = Motion::lively(&mut random, 50);
         Script {
             feed: Vec::new(),
             random,
             rules,
             streams,
+            recordings,
             packs: 0,
             desk: Desk::default(),
             sources: Vec::new(),

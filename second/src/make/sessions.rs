@@ -3,7 +3,7 @@
 use super::broken::aside;
 use super::random::Random;
 use super::script::{pairs, Script};
-use super::{instants, streams};
+use super::{instants, recordings, streams};
 use crate::container::ID_SIZE;
 use crate::formats::{Rate, FORMATS};
 
@@ -282,6 +282,7 @@ pub fn mixed(random: Random, seed: u64) -> Vec<u8> {
         turn(&mut script, &turns);
         (0..script.random.below(4)).for_each(|_| aside(&mut script));
         (0..script.streams.below(3)).for_each(|_| streams::one(&mut script));
+        (0..script.recordings.below(2)).for_each(|_| recordings::one(&mut script));
     }
     script.feed
 }

@@ -4,7 +4,6 @@ use super::containers;
 use super::largest::{self, FIVE_BYTES};
 use super::random::Random;
 use super::script::Script;
-use crate::container;
 use crate::feed::MOST_ROOM;
 use crate::formats::RATES;
 use crate::transport::{packet_around, register_after, sealed, BYTES_AROUND, CRC_SIZE, POLYNOMIAL, START_CODE};
@@ -269,7 +268,7 @@ pub fn one(script: &mut Script) {
     unwrap(script, &packet);
 }
 
-/// A record that is none: no room, half a room, a room above 4,096, the tag behind theirs; what follows would be taken.
+/// A record that is none: no room, half a room, a room above 4,096, the first tag behind theirs that is none; what follows would be taken.
 pub fn malformed(script: &mut Script) {
     let random = &mut script.streams;
     let container = containers::written(&containers::contents(random, Default::default()));
@@ -280,7 +279,7 @@ pub fn malformed(script: &mut Script) {
             let half = random.pick(&[0, 1, 0x10]);
             script.record(tag, &[half], &[]);
         }
-        2 => script.with_room(0x28, MOST_ROOM, &given),
+        2 => script.with_room(0x29, MOST_ROOM, &given),
         _ => {
             let room = random.pick(&[4097, 4098, 4352, 5000, 65_535]);
             script.with_room(tag, room, &given);
@@ -288,20 +287,10 @@ pub fn malformed(script: &mut Script) {
     }
 }
 
-/// A container that is refused with this number.
-fn refused_with(random: &mut Random, number: u8) -> Vec<u8> {
-    loop {
-        let container = containers::any(random);
-        if container::read(&container) == Err(number) {
-            return container;
-        }
-    }
-}
-
 /// Each of 20 to 28 at both calls, before 12; in packets that are whole and behind each fault that comes first.
 fn refused_containers(script: &mut Script) {
     for number in 20..=28 {
-        let container = refused_with(&mut script.streams, number);
+        let container = containers::refused_with(&mut script.streams, number);
         let rooms = [0, container.len() + BYTES_AROUND];
         rooms.into_iter().for_each(|room| script.with_room(0x26, room, &container));
         let faults = [

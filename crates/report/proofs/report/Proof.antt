@@ -2,11 +2,12 @@
 use mathlib.Core.Path.{_≡_, ap, _∙_}
 use borrow.Author.Tests.{eq-eqb, ne-eqb}
 use native.Mathlib.Omega.{arith}
+use Rattle.text.specs.Lines.{refusedText}
 use Rattle.text.proofs.Pieces.{put-as, put-front}
 use Rattle.report.proofs.Sizes.{reported-size}
 use Rattle.container.specs.declared.Reading.{Reading}
 use Rattle.container.specs.Reading.{reading}
-use Rattle.report.specs.Report.{acceptedText, refusedText, reported}
+use Rattle.report.specs.Report.{acceptedText, reported}
 use borrow.Author.Needs.{needs}
 use Rattle.report.proofs.report.Statement.{statement}
 use Rattle.report.proofs.report.Tie as tie

@@ -28,7 +28,7 @@ returns-2 c = rw (ne-eqb _ 0x20 (c .before .before .before .before .before .if1 
 
 returns-3 : tie.Need-returns-3
 unfolding aloneFed
-returns-3 c = rw (ne-eqb _ 0x20 (c .before .before .if1 .left), ne-eqb _ 0x21 (c .before .if2 .left), lt-ltb 0x27 _ (c .if3 .taken)) (refl, c .before .before .before .before .before .pre)
+returns-3 c = rw (ne-eqb _ 0x20 (c .before .before .if1 .left), ne-eqb _ 0x21 (c .before .if2 .left), lt-ltb 0x28 _ (c .if3 .taken)) (refl, c .before .before .before .before .before .pre)
 
 in-room-requires : tie.Need-in-room-requires
 in-room-requires c κs = search needs
@@ -38,7 +38,7 @@ same-length-3 c = search needs
 
 returns-4 : tie.Need-returns-4
 unfolding aloneFed
-returns-4 c = rw (ne-eqb _ 0x20 (c .before .before .before .before .before .before .if1 .left), ne-eqb _ 0x21 (c .before .before .before .before .before .if2 .left), le-ltb 0x27 _ (c .before .before .before .before .if3 .left)) (c .before .before .in-room .ensures)
+returns-4 c = rw (ne-eqb _ 0x20 (c .before .before .before .before .before .before .if1 .left), ne-eqb _ 0x21 (c .before .before .before .before .before .if2 .left), le-ltb 0x28 _ (c .before .before .before .before .if3 .left)) (c .before .before .in-room .ensures)
 
 pub alone-spec : {M : Type 1} → statement M
 alone-spec =

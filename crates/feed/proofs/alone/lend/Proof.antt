@@ -1,7 +1,7 @@
 -- `feed::alone::lend` meets its contract, tag by tag.
-use mathlib.Core.Path.{refl, ap}
+use mathlib.Core.Path.{ap}
 use borrow.Author.Tests.{eq-eqb, ne-eqb}
-use Rattle.answers.specs.declared.Hand.the-variants.{Rewrite, Wrap, Unwrap, Stream, Unstream}
+use Rattle.answers.specs.declared.Hand.the-variants.{Rewrite}
 use Rattle.answers.specs.declared.Answer.the-variants.{Handed}
 use Rattle.feed.specs.Alone.{lentFed}
 use borrow.Author.Needs.{needs}
@@ -18,59 +18,25 @@ returns : tie.Need-returns
 unfolding lentFed
 returns c = rw (eq-eqb _ 0x22 (c .before .before .before .before .if1 .taken)) (ap (Handed Rewrite) (c .before .before .rewrite .ensures .0), c .before .before .rewrite .ensures .1)
 
-write-packet-requires : tie.Need-write-packet-requires
-write-packet-requires c κs = search needs
+write-requires : tie.Need-write-requires
+write-requires c κs = search needs
 
 same-length-2 : tie.Need-same-length-2
 same-length-2 c = search needs
 
 returns-2 : tie.Need-returns-2
 unfolding lentFed
-returns-2 c = rw (ne-eqb _ 0x22 (c .before .before .before .before .before .if1 .left), eq-eqb _ 0x23 (c .before .before .before .before .if2 .taken)) (ap (Handed Wrap) (c .before .before .write-packet .ensures .0), c .before .before .write-packet .ensures .1)
+returns-2 c = rw (ne-eqb _ 0x22 (c .before .before .before .before .before .if1 .left), eq-eqb _ 0x25 (c .before .before .before .before .if2 .taken)) (c .before .before .write .ensures)
 
-read-packet-requires : tie.Need-read-packet-requires
-read-packet-requires c κs = search needs
+carry-requires : tie.Need-carry-requires
+carry-requires c κs = search needs
 
 same-length-3 : tie.Need-same-length-3
 same-length-3 c = search needs
 
 returns-3 : tie.Need-returns-3
 unfolding lentFed
-returns-3 c = rw (ne-eqb _ 0x22 (c .before .before .before .before .before .before .if1 .left), ne-eqb _ 0x23 (c .before .before .before .before .before .if2 .left), eq-eqb _ 0x24 (c .before .before .before .before .if3 .taken)) (ap (Handed Unwrap) (c .before .before .read-packet .ensures .0), c .before .before .read-packet .ensures .1)
-
-write-requires : tie.Need-write-requires
-write-requires c κs = search needs
-
-same-length-4 : tie.Need-same-length-4
-same-length-4 c = search needs
-
-returns-4 : tie.Need-returns-4
-unfolding lentFed
-returns-4 c = rw (ne-eqb _ 0x22 (c .before .before .before .before .before .before .before .if1 .left), ne-eqb _ 0x23 (c .before .before .before .before .before .before .if2 .left), ne-eqb _ 0x24 (c .before .before .before .before .before .if3 .left), eq-eqb _ 0x25 (c .before .before .before .before .if4 .taken)) (c .before .before .write .ensures)
-
-write-transport-requires : tie.Need-write-transport-requires
-write-transport-requires c κs = search needs
-
-same-length-5 : tie.Need-same-length-5
-same-length-5 c = search needs
-
-returns-5 : tie.Need-returns-5
-unfolding lentFed
-returns-5 c = rw (ne-eqb _ 0x22 (c .before .before .before .before .before .before .before .before .if1 .left), ne-eqb _ 0x23 (c .before .before .before .before .before .before .before .if2 .left), ne-eqb _ 0x24 (c .before .before .before .before .before .before .if3 .left), ne-eqb _ 0x25 (c .before .before .before .before .before .if4 .left), eq-eqb _ 0x26 (c .before .before .before .before .if5 .taken)) (ap (Handed Stream) (c .before .before .write-transport .ensures .0), c .before .before .write-transport .ensures .1)
-
-read-transport-requires : tie.Need-read-transport-requires
-read-transport-requires c κs = search needs
-
-same-length-6 : tie.Need-same-length-6
-same-length-6 c = search needs
-
-returns-6 : tie.Need-returns-6
-unfolding lentFed
-returns-6 c = rw (ne-eqb _ 0x22 (c .before .before .before .before .before .before .before .before .before .if1 .left), ne-eqb _ 0x23 (c .before .before .before .before .before .before .before .before .if2 .left), ne-eqb _ 0x24 (c .before .before .before .before .before .before .before .if3 .left), ne-eqb _ 0x25 (c .before .before .before .before .before .before .if4 .left), ne-eqb _ 0x26 (c .before .before .before .before .before .if5 .left), eq-eqb _ 0x27 (c .before .before .before .before .if6 .taken)) (ap (Handed Unstream) (c .before .before .read-transport .ensures .0), c .before .before .read-transport .ensures .1)
-
-returns-7 : tie.Need-returns-7
-unfolding lentFed
-returns-7 c = rw (ne-eqb _ 0x22 (c .before .before .before .before .before .if1 .left), ne-eqb _ 0x23 (c .before .before .before .before .if2 .left), ne-eqb _ 0x24 (c .before .before .before .if3 .left), ne-eqb _ 0x25 (c .before .before .if4 .left), ne-eqb _ 0x26 (c .before .if5 .left), ne-eqb _ 0x27 (c .if6 .left)) (refl, refl)
+returns-3 c = rw (ne-eqb _ 0x22 (c .before .before .before .before .before .if1 .left), ne-eqb _ 0x25 (c .before .before .before .before .if2 .left)) (c .before .before .carry .ensures)
 
 pub lend-spec : {M : Type 1} → statement M
 lend-spec =
@@ -79,19 +45,9 @@ lend-spec =
     rewrite-requires
     same-length
     returns
-    write-packet-requires
+    write-requires
     same-length-2
     returns-2
-    read-packet-requires
+    carry-requires
     same-length-3
-    returns-3
-    write-requires
-    same-length-4
-    returns-4
-    write-transport-requires
-    same-length-5
-    returns-5
-    read-transport-requires
-    same-length-6
-    returns-6
-    returns-7)
+    returns-3)

@@ -1,10 +1,10 @@
--- `report::put_refused` meets its contract.
+-- `text::put_refused` meets its contract.
 use native.Mathlib.Omega.{arith}
 use Rattle.text.proofs.Pieces.{put-then}
-use Rattle.report.specs.Report.{refusedText}
+use Rattle.text.specs.Lines.{refusedText}
 use borrow.Author.Needs.{needs}
-use Rattle.report.proofs.put_refused.Statement.{statement}
-use Rattle.report.proofs.put_refused.Tie as tie
+use Rattle.text.proofs.put_refused.Statement.{statement}
+use Rattle.text.proofs.put_refused.Tie as tie
 
 slice-aggregate-put-item : tie.Need-slice-aggregate-put-item
 slice-aggregate-put-item c = search needs

@@ -1,0 +1,5 @@
+pub mod Fields
+pub mod Parts
+pub mod Mending
+pub mod Report
+pub mod Places

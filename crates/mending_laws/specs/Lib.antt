@@ -1,0 +1,2 @@
+pub mod Recordings
+pub mod Spans

@@ -1,0 +1,1 @@
+// Theorems about mending, in proofs/; there is no code here.
