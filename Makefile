@@ -8,7 +8,7 @@ help: ## this list
 run: ## shows card at work on a small feed: seconds unproved, then proved (4 to 5 minutes the first time)
 	@tools/run
 
-test: ## proves every crate from nothing and runs every test (30 minutes)
+test: ## proves every crate from nothing and runs every test (32 minutes)
 	@tools/test
 
 lib: ## proves the C interface and makes target/lib/liblipsync.a and .so
