@@ -1,8 +1,6 @@
 // Recordings mended by the host's own call, beside a plain Rust program that collects what is kept as it goes and copies it where it has room.
-mod containers;
-use containers::{container, container_number};
-use std::hint::black_box;
-use std::time::Instant;
+mod shared;
+use shared::{container, container_number, time, Program};
 
 // The bytes of the acceptable field at a place.
 fn field(recording: &[u8], at: usize) -> Option<&[u8]> {
@@ -51,18 +49,7 @@ fn mend_by_host(recording: &[u8], out: &mut [u8]) -> (u8, usize) {
     (number, written)
 }
 
-type Program = fn(&[u8], &mut [u8]) -> (u8, usize);
-
 const RUNS: usize = 51;
-
-// us for a call
-fn time(program: Program, given: &[u8], out: &mut [u8], calls: usize) -> f64 {
-    let began = Instant::now();
-    for _ in 0..calls {
-        black_box(program(black_box(given), out));
-    }
-    began.elapsed().as_secs_f64() * 1e6 / calls as f64
-}
 
 fn row(name: &str, given: &[u8], room: usize) {
     let calls = 1 + 60_000 / (given.len() + 20);
@@ -71,7 +58,7 @@ fn row(name: &str, given: &[u8], room: usize) {
     let mut least = [f64::MAX; 2];
     for _ in 0..RUNS {
         for (i, program) in programs.iter().enumerate() {
-            least[i] = least[i].min(time(*program, given, &mut outs[i], calls));
+            least[i] = least[i].min(time(*program, given, &mut outs[i], calls) / 1000.0);
         }
     }
     let answers = programs.map(|program| program(given, &mut vec![0xa5u8; room]));

@@ -1,10 +1,8 @@
 // Transport packets written and read by the host's own calls, beside a plain Rust program whose CRC_32 goes by the byte over a table. With bench/run --before:
 // ancillary packets by the host's calls, beside the same calls of an earlier commit.
 #![allow(unexpected_cfgs)]
-mod containers;
-use containers::{container, container_number};
-use std::hint::black_box;
-use std::time::Instant;
+mod shared;
+use shared::{container, container_number, time, Program};
 
 const fn table() -> [u32; 256] {
     let mut table = [0; 256];
@@ -93,18 +91,7 @@ fn read_by_host(bytes: &[u8], out: &mut [u8]) -> (u8, usize) {
     called(lipsync_read_transport, bytes, out)
 }
 
-type Program = fn(&[u8], &mut [u8]) -> (u8, usize);
-
 const RUNS: usize = 101;
-
-// ns for a call
-fn time(program: Program, given: &[u8], out: &mut [u8], calls: usize) -> f64 {
-    let began = Instant::now();
-    for _ in 0..calls {
-        black_box(program(black_box(given), out));
-    }
-    began.elapsed().as_secs_f64() * 1e9 / calls as f64
-}
 
 fn row(name: &str, ours: Program, theirs: Program, given: &[u8], number: u8) {
     let calls = 400_000 / (given.len() + 20);

@@ -711,7 +711,6 @@ static void longest_recordings(void) {
         written = 99;
         CHECK(lipsync_mend(s, n + 1, out, 0, &written) == LIPSYNC_REFUSED_TOO_LONG && written == 0); /* before 50 and before 12 */
         CHECK(lipsync_mend(s, n + 1, lend(), MOST, &written) == LIPSYNC_REFUSED_TOO_LONG && untouched());
-        seen[LIPSYNC_REFUSED_TOO_LONG]++;
     }
 }
 
@@ -924,7 +923,6 @@ static void damage(void) {
     }
     for (int number = 20; number <= 50; number++)
         if (number != 29 && (number <= 36 || number >= 40) && (number <= 43 || number == 50)) CHECK(seen[number] > 50);
-    CHECK(seen[LIPSYNC_REFUSED_TOO_LONG] > 0);
     CHECK(seen[LIPSYNC_OK] > 10000 && seen[LIPSYNC_REFUSED_ROOM] > 1000);
 }
 

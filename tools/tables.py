@@ -25,6 +25,7 @@ ANY = tuple(range(2, 12))
 MONITORED = 16  # lines of a field
 PIXELS = 60  # of a monitored line
 LARGEST = 4 + 21 + 3 + 225 + 1  # bytes of a container: 254 (02, A7)
+LONGEST_RECORDING = 65536  # bytes (02, A8)
 SOUND_RATE = 48000
 
 # 01, "Video: formats and the 960 bytes". Active lines: ST 125 (525 and 625 lines), ST 296, ST 274, ST 2048-2; 2160 rows at twice the

@@ -1,16 +1,13 @@
--- Parts of a slice: from a place on, as the borrow checker gives it, and the first bytes as far as there are so many.
-use Prim.Native.Nat.{ℕ, _-_, _≤_}
+-- The first bytes of a slice, as far as there are so many, and what is left behind them.
+use Prim.Native.Nat.{ℕ, _≤_}
 use mathlib.Core.Path.{_≡_, refl, sym, _∙_}
 use mathlib.Core.List.{List}
 use mathlib.Core.Bool.{Bool, true, false, cond}
 use native.Mathlib.Omega.{arith}
-use lib.ListN.{length, take, drop, length-drop, drop-of-length-le}
+use lib.ListN.{length, take, drop, drop-of-length-le}
 use lib.Seq.{take-all}
 use lib.Dec.{leb}
 use borrow.Author.Tests.{leb-true, leb-false}
-
-pub tail-is : (n : ℕ) (s : List ℕ) → take (length s - n) (drop n s) ≡ drop n s
-tail-is n s = take-all (length s - n) (drop n s) (omega (arith, length-drop n s))
 
 pub least-within : (n m : ℕ) → cond (leb n m) n m ≤ m
 least-within n m = go (leb n m) refl

@@ -1,11 +1,10 @@
 -- Laws of reading: what a right fingerprint and a header with no fault say, how many bytes a part takes, and the outcome from the parts' outcomes.
-use Prim.Native.Nat.{ℕ, zero, suc, _+_, _-_, _/_, _%_, _≤_, _<_}
+use Prim.Native.Nat.{ℕ, zero, suc, _+_, _/_, _%_, _≤_, _<_}
 use mathlib.Core.List.{List, _++_}
 use mathlib.Core.Path.{_≡_, ap}
 use mathlib.Core.Bool.{Bool, true, false, cond, false≢true}
 use native.Mathlib.Omega.{arith}
-use lib.ListN.{length, getD, take, drop, replicate, length-drop}
-use lib.Seq.{take-all}
+use lib.ListN.{length, getD, drop, replicate, length-drop}
 use lib.Dec.{leb, ltb, eqb}
 use borrow.Author.Tests.{leb-true, ltb-true, eqb-true, eqb-false, eq-eqb, ne-eqb}
 use Rattle.laws.specs.Sums.{sum}
@@ -20,9 +19,6 @@ use Rattle.container.specs.declared.AudioPart.{AudioPart}
 use Rattle.container.specs.Contents.{blankPrint, blanks, sameCount}
 use Rattle.container.specs.Parts.{noPrint, idPart, oneField, bothFields, videoPart, printPart, printAt, Run, runOf, noAudio, audioOf, audioPart}
 use Rattle.container.specs.Reading.{headerNumber, refusal, partsSay, partsJoined, idIn, partsReading}
-
-pub tail-part : (s : List ℕ) (p : ℕ) → take (length s - p) (drop p s) ≡ drop p s
-tail-part s p = take-all (length s - p) (drop p s) (rw length-drop (omega arith))
 
 -- ---- the header
 

@@ -1,14 +1,14 @@
 -- Laws on lists that the kit does not have.
-use Prim.Native.Nat.{ℕ, zero, suc, _+_, _≤_, _<_}
-use mathlib.Core.Path.{_≡_, refl, sym, ap, subst, _∙_}
+use Prim.Native.Nat.{ℕ, zero, suc, _+_, _-_, _≤_, _<_}
+use mathlib.Core.Path.{_≡_, refl, sym, subst, _∙_}
 use mathlib.Core.Bool.{Bool, true, false, or-true, false≢true}
 use mathlib.Core.Logic.{_↔_}
 use mathlib.Core.List.{List, [], _∷_, _++_}
 use native.Mathlib.Omega.{arith}
 use native.Mathlib.Numerals.{add-one}
 use native.Mathlib.Nat.{add-zero, add-suc, suc-add, zero-add, not-suc-le-zero, le-of-suc-le-suc}
-use lib.ListN.{length, getD, take, drop, set, replicate}
-use lib.Seq.{sets, sets-eq, set-out, drop-cons, take-at}
+use lib.ListN.{length, getD, take, drop, set, replicate, length-drop}
+use lib.Seq.{sets, sets-eq, set-out, drop-cons, take-at, take-all}
 use lib.Dec.{eqb}
 use borrow.Author.Tests.{eqb-true, eq-eqb}
 use Rattle.laws.specs.Calls.{over}
@@ -38,6 +38,11 @@ module _ {A : Type 0} where
   getD-any [] k d e h = absurd (not-suc-le-zero h)
   getD-any (x ∷ l) zero d e h = refl
   getD-any (x ∷ l) (suc k) d e h = getD-any l k d e (le-of-suc-le-suc h)
+
+-- what is lent from a place on is the rest
+module _ {A : Type 0} where
+  pub tail-part : (l : List A) (n : ℕ) → take (length l - n) (drop n l) ≡ drop n l
+  tail-part l n = take-all (length l - n) (drop n l) (omega (arith, length-drop n l))
 
 -- stores from the start on stand over the front
 pub sets-over : (bytes out : List ℕ) → length bytes ≤ length out → sets out 0 bytes ≡ over bytes out

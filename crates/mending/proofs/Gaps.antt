@@ -7,7 +7,7 @@ use native.Mathlib.Omega.{arith}
 use native.Mathlib.Numerals.{add-one}
 use native.Mathlib.Decide.{decLt}
 use lib.ListN.{length, getD, take, drop, length-drop, drop-of-length-le}
-use lib.Seq.{drop-cons, getD-drop, length-take-le}
+use lib.Seq.{drop-cons, drop-drop, getD-drop, length-take-le}
 use lib.Dec.{leb, eqb}
 use borrow.Author.Tests.{leb-true, eqb-true, le-leb, lt-leb, eq-eqb, ne-eqb}
 use Rattle.laws.specs.Bytes.{Bytes}
@@ -113,6 +113,14 @@ gap-again s =
       | yes h ↦ gap-none (drop (gap s) s) (gap-at s h)
       | no n ↦ gap-end s (gap s) (omega arith)
     ]
+
+-- a place counted from another on
+pub drop-on : (s : List ℕ) (at n to : ℕ) → to ≡ at + n → drop n (drop at s) ≡ drop to s
+drop-on s at n to e = drop-drop n at s ∙ ap (λ (m : ℕ). drop m s) (sym e)
+
+-- the next place that starts a field, from a place on
+pub next-lands : (s : List ℕ) (at next : ℕ) → next ≡ at + gap (drop at s) → gap (drop next s) ≡ 0
+next-lands s at next e = ap gap (sym (drop-on s at (gap (drop at s)) next e)) ∙ gap-again (drop at s)
 
 -- one place on
 pub gap-step : (s : List ℕ) (at : ℕ) → at < length s → acceptable (drop at s) ≡ false → at + gap (drop at s) ≡ at + 1 + gap (drop (at + 1) s)

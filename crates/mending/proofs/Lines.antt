@@ -7,14 +7,14 @@ use native.Mathlib.Nat.{add-zero}
 use native.Mathlib.Decide.{decLt}
 use borrow.Author.Tests.{lt-ltb, le-ltb}
 use lib.ListN.{length, take, drop, drop-of-length-le, length-drop}
-use lib.Seq.{length-take-le, drop-drop}
+use lib.Seq.{length-take-le}
 use Rattle.text.specs.Lines.{lastPlace, Put}
 use Rattle.text.proofs.Pieces.{put-none, put-then, put-as}
 use Rattle.mending.specs.Fields.{fieldSize}
 use Rattle.mending.specs.Parts.{kept, dropped, partsOf, walk, keptCount}
 use Rattle.mending.specs.Report.{runText, runsText, keptText, mendedText}
 use Rattle.mending.specs.Places.{gap, runBetween}
-use Rattle.mending.proofs.Gaps.{gap-within, gap-again}
+use Rattle.mending.proofs.Gaps.{gap-within, drop-on}
 use Rattle.mending.proofs.Walks.{parts-kept, parts-run, Turn}
 
 pub no-run : (start end : ℕ) → end ≤ start → runBetween start end ≡ []
@@ -29,10 +29,7 @@ a-run start end h = rw (lt-ltb start end h)
 
 module _ (s : List ℕ) (start at : ℕ) (e : at ≡ start + gap (drop start s)) where
   past : drop (gap (drop start s)) (drop start s) ≡ drop at s
-  past = drop-drop (gap (drop start s)) start s ∙ ap (λ (n : ℕ). drop n s) (sym e)
-
-  pub next-lands : gap (drop at s) ≡ 0
-  next-lands = ap gap (sym past) ∙ gap-again (drop start s)
+  past = drop-on s start (gap (drop start s)) at e
 
   none : gap (drop start s) ≡ 0 → at ≡ start
   none z = omega (arith, e, z)
@@ -65,8 +62,8 @@ module _ (s : List ℕ) (at end next : ℕ) (t : Turn s at end next) where
   pub runs-field : runsText at (partsOf (drop at s)) ≡ runsText end (partsOf (drop end s))
   unfolding runsText
   runs-field =
-      let n : length (take (fieldSize (drop at s)) (drop at s)) ≡ end - at = length-take-le (fieldSize (drop at s)) (drop at s) (omega (arith, t .field, t .whole, length-drop at s)) ∙ sym (t .field) in
-      let k : at + (end - at) ≡ end = omega (arith, t .goes-on) in
+      let n : length (take (fieldSize (drop at s)) (drop at s)) ≡ end - at = length-take-le (fieldSize (drop at s)) (drop at s) (omega (arith, t .field, t .stretch .within, length-drop at s)) ∙ sym (t .field) in
+      let k : at + (end - at) ≡ end = omega (arith, t .stretch .goes-on) in
       ap (runsText at) parts ∙ ap (λ (m : ℕ). runsText (at + m) (partsOf (drop end s))) n ∙ ap (λ (m : ℕ). runsText m (partsOf (drop end s))) k
 
   pub count-field : keptCount (partsOf (drop at s)) ≡ suc (keptCount (partsOf (drop end s)))
@@ -99,7 +96,7 @@ pub saying-next : (s out₀ out out′ : List ℕ) (n start at end next p p′ :
 saying-next s out₀ out out′ n start at end next p p′ w t e f d =
     let run : List ℕ = runBetween start at in
     record {
-      within = t .whole;
+      within = t .stretch .within;
       place = e;
       text = w .text ++ run;
       said = put-then (w .said) d f;

@@ -6,7 +6,7 @@ use mathlib.Core.Bool.{Bool, true, false}
 use native.Mathlib.Omega.{arith}
 use native.Mathlib.Numerals.{sub-one}
 use lib.ListN.{length, take, drop, length-append, length-drop, take-append-drop, drop-of-length-le}
-use lib.Seq.{sets, length-take-le, drop-drop, take-add}
+use lib.Seq.{sets, length-take-le, take-add}
 use Rattle.laws.specs.Bytes.{Bytes}
 use Rattle.laws.proofs.Lists.{sets-append}
 use Rattle.laws.proofs.Tests.{chosen}
@@ -14,7 +14,7 @@ use Rattle.mending.specs.Fields.{fieldSize, acceptable}
 use Rattle.mending.specs.Parts.{Part, kept, dropped, dropThen, walk, partsOf, bytesOf, joined, keptCount}
 use Rattle.mending.specs.Mending.{mended}
 use Rattle.mending.specs.Places.{gap, Stretch, Before}
-use Rattle.mending.proofs.Gaps.{fits, smallest, gap-none, gap-more, gap-within, lands-at, gap-again}
+use Rattle.mending.proofs.Gaps.{fits, smallest, gap-none, gap-more, gap-within, lands-at, drop-on, next-lands}
 
 -- what is still to be passed over is passed over
 pub walk-over : (n : ℕ) (s : List ℕ) → walk n s ≡ partsOf (drop n s)
@@ -137,37 +137,6 @@ count-size s h = omega (arith, go 0 s h)
         (λ e. omega (arith, go (fieldSize (b ∷ s) - 1) s (λ k. h (suc k)), smallest (b ∷ s) h e, fits (b ∷ s) e))
         (λ e. omega (arith, go zero s (λ k. h (suc k)), count-drop b (walk zero s)))
 
--- ---- one turn of a loop over the fields
-
--- at a place that starts an acceptable field, which ends at end, next being the place that starts the next one, or the recording's end
-pub record Turn (s : List ℕ) (at end next : ℕ) : Type 0 where
-  pub starts : acceptable (drop at s) ≡ true
-  pub goes-on : at < end
-  pub whole : end ≤ length s
-  pub within : next ≤ length s
-  pub after : end ≤ next
-  pub lands : gap (drop next s) ≡ 0
-  pub field : end - at ≡ fieldSize (drop at s)
-  pub rest : drop (fieldSize (drop at s)) (drop at s) ≡ drop end s
-  pub over : drop (gap (drop end s)) (drop end s) ≡ drop next s
-
-pub turn : (s : List ℕ) (at end next : ℕ) → at < length s → gap (drop at s) ≡ 0 → end ≡ at + fieldSize (drop at s) → next ≡ end + gap (drop end s) → Turn s at end next
-turn s at end next h g e f =
-    let l : length (drop at s) ≡ length s - at = length-drop at s in
-    let a = lands-at s at h g in
-    let k = fits (drop at s) a in
-    record {
-      starts = a;
-      goes-on = omega (arith, e, k);
-      whole = omega (arith, e, k, l, h);
-      within = omega (arith, f, gap-within (drop end s), length-drop end s, e, k, l, h);
-      after = omega (arith, f);
-      lands = ap gap (ap (λ (n : ℕ). drop n s) f ∙ sym (drop-drop (gap (drop end s)) end s)) ∙ gap-again (drop end s);
-      field = omega (arith, e);
-      rest = drop-drop (fieldSize (drop at s)) at s ∙ ap (λ (n : ℕ). drop n s) (sym e);
-      over = drop-drop (gap (drop end s)) end s ∙ ap (λ (n : ℕ). drop n s) (sym f);
-    }
-
 -- ---- stretches of fields that follow one another
 
 pub one-field : (s : List ℕ) (at end : ℕ) → at < length s → acceptable (drop at s) ≡ true → end ≡ at + fieldSize (drop at s) → Stretch s at end
@@ -179,7 +148,29 @@ one-field s at end h a e =
       within = omega (arith, e, k, length-drop at s, h);
       kept =
           mended-kept (drop at s) a ∙ ap (λ (m : ℕ). take m (drop at s) ++ mended (drop m (drop at s))) n
-          ∙ ap (λ (l : List ℕ). take (end - at) (drop at s) ++ mended l) (drop-drop (end - at) at s ∙ ap (λ (m : ℕ). drop m s) (let w : at + (end - at) ≡ end = omega (arith, e) in w));
+          ∙ ap (λ (l : List ℕ). take (end - at) (drop at s) ++ mended l) (drop-on s at (end - at) end (omega (arith, e)));
+    }
+
+-- at a place that starts an acceptable field, which ends at end, next being the place that starts the next one, or the recording's end
+pub record Turn (s : List ℕ) (at end next : ℕ) : Type 0 where
+  pub starts : acceptable (drop at s) ≡ true
+  pub stretch : Stretch s at end
+  pub within : next ≤ length s
+  pub after : end ≤ next
+  pub field : end - at ≡ fieldSize (drop at s)
+  pub rest : drop (fieldSize (drop at s)) (drop at s) ≡ drop end s
+
+pub turn : (s : List ℕ) (at end next : ℕ) → at < length s → gap (drop at s) ≡ 0 → end ≡ at + fieldSize (drop at s) → next ≡ end + gap (drop end s) → Turn s at end next
+turn s at end next h g e f =
+    let a = lands-at s at h g in
+    let t = one-field s at end h a e in
+    record {
+      starts = a;
+      stretch = t;
+      within = omega (arith, f, gap-within (drop end s), length-drop end s, t .within);
+      after = omega (arith, f);
+      field = omega (arith, e);
+      rest = drop-on s at (fieldSize (drop at s)) end e;
     }
 
 -- one behind another
@@ -187,9 +178,8 @@ pub stretch-on : (s : List ℕ) (at mid end : ℕ) → Stretch s at mid → Stre
 stretch-on s at mid end p q =
     let x : List ℕ = take (mid - at) (drop at s) in
     let y : List ℕ = take (end - mid) (drop mid s) in
-    let m : at + (mid - at) ≡ mid = omega (arith, p .goes-on) in
     let n : mid - at + (end - mid) ≡ end - at = omega (arith, p .goes-on, q .goes-on) in
-    let d : drop (mid - at) (drop at s) ≡ drop mid s = drop-drop (mid - at) at s ∙ ap (λ (i : ℕ). drop i s) m in
+    let d = drop-on s at (mid - at) mid (omega (arith, p .goes-on)) in
     let j : x ++ y ≡ take (end - at) (drop at s) =
     ap (λ (l : List ℕ). x ++ take (end - mid) l) (sym d) ∙ sym (take-add (mid - at) (end - mid) (drop at s)) ∙ ap (λ (i : ℕ). take i (drop at s)) n in
     record {
@@ -201,18 +191,16 @@ stretch-on s at mid end p q =
 -- what is kept from a stretch on, with the next place that starts a field
 pub stretch-over : (s : List ℕ) (at end next : ℕ) → Stretch s at end → next ≡ end + gap (drop end s) → mended (drop at s) ≡ take (end - at) (drop at s) ++ mended (drop next s)
 stretch-over s at end next t g =
-    let o : drop (gap (drop end s)) (drop end s) ≡ drop next s = drop-drop (gap (drop end s)) end s ∙ ap (λ (i : ℕ). drop i s) (sym g) in
-    t .kept ∙ ap (λ (l : List ℕ). take (end - at) (drop at s) ++ l) (mended-over (drop end s) ∙ ap mended o)
+    t .kept ∙ ap (λ (l : List ℕ). take (end - at) (drop at s) ++ l) (mended-over (drop end s) ∙ ap mended (drop-on s end (gap (drop end s)) next g))
 
 pub stretch-size : (s : List ℕ) (at end : ℕ) → Stretch s at end → length (take (end - at) (drop at s)) ≡ end - at
 stretch-size s at end t = length-take-le (end - at) (drop at s) (omega (arith, t .within, length-drop at s))
 
 pub next-before : (s : List ℕ) (at end next size : ℕ) → Stretch s at end → next ≡ end + gap (drop end s) → size ≤ end → Before s next size
 next-before s at end next size t g h =
-    let o : drop (gap (drop end s)) (drop end s) ≡ drop next s = drop-drop (gap (drop end s)) end s ∙ ap (λ (i : ℕ). drop i s) (sym g) in
     record {
       within = omega (arith, g, t .within, gap-within (drop end s), length-drop end s);
-      lands = ap gap (sym o) ∙ gap-again (drop end s);
+      lands = next-lands s end next g;
       fewer = omega (arith, g, h);
     }
 

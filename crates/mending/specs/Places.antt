@@ -21,7 +21,7 @@ pub record Stretch (s : List ℕ) (at end : ℕ) : Type 0 where
   pub within : end ≤ length s
   pub kept : mended (drop at s) ≡ take (end - at) (drop at s) ++ mended (drop end s)
 
--- a place that starts an acceptable field or is the end, with so many bytes kept before it
+-- a place that starts an acceptable field or is the end, and a number of bytes, no more than lie before it
 pub record Before (s : List ℕ) (at size : ℕ) : Type 0 where
   pub within : at ≤ length s
   pub lands : gap (drop at s) ≡ 0

@@ -1,4 +1,4 @@
-// Mending recordings that were cut or overwritten: every container that is still whole is kept (02, A8).
+// Mending recordings that were cut or overwritten: at each place a whole field whose container is accepted is kept, or a byte dropped (02, A8).
 ghost use mathlib.Core.Path.{_≡_};
 ghost use mathlib.Core.Bool.{true, false};
 ghost use Prim.Native.Nat.{_+_, _≤_, _<_};

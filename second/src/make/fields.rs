@@ -60,22 +60,9 @@ pub fn accepted(random: &mut Random) -> Vec<u8> {
 /// all that a length reaches.
 pub fn with_wrong_heads(random: &mut Random, container: &[u8]) -> Vec<Vec<u8>> {
     let right = container.len() as u16;
-    let [high, low] = right.to_be_bytes();
     let tags = [0x00, 0x02, 0x03, 0x10, 0x11, 0x21, 0x80, 0x81, 0xFF, TAG ^ 1 << random.below(8), random.byte()];
-    let mut lengths: Vec<u16> = [1, 2, 3, 255, 256, 512].iter().map(|more| right.wrapping_add(*more)).collect();
-    lengths.extend([1, 2, 3, 256].map(|less| right.wrapping_sub(less)));
-    lengths.extend([
-        right.swap_bytes(),
-        u16::from_be_bytes([high ^ 1 << random.below(8), low]),
-        u16::from_be_bytes([high, low ^ 1 << random.below(8)]),
-        u16::from_be_bytes([random.byte(), low]),
-        u16::from_be_bytes([high, random.byte()]),
-        u16::from_be_bytes([low, low]),
-        0,
-        0x8000 | right,
-        u16::MAX - 2,
-        u16::MAX,
-    ]);
+    let mut lengths = random.lengths_near(right, &[1, 2, 3, 255, 256, 512], &[1, 2, 3, 256]);
+    lengths.extend([0x8000 | right, u16::MAX - 2, u16::MAX]);
     let of_tags = tags.into_iter().filter(|tag| *tag != TAG).map(|tag| tagged(tag, right, container));
     let of_lengths = lengths.into_iter().filter(|length| *length != right).map(|length| tagged(TAG, length, container));
     of_tags.chain(of_lengths).collect()

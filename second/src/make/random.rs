@@ -59,6 +59,24 @@ impl Random {
         list[self.below(list.len())]
     }
 
+    /// Two-byte lengths near the right one, among which it may be too: more and less by so many, with the bytes exchanged,
+    /// with one byte overwritten, with one byte twice, and 0.
+    pub fn lengths_near(&mut self, right: u16, more: &[u16], less: &[u16]) -> Vec<u16> {
+        let [high, low] = right.to_be_bytes();
+        let mut lengths: Vec<u16> = more.iter().map(|more| right.wrapping_add(*more)).collect();
+        lengths.extend(less.iter().map(|less| right.wrapping_sub(*less)));
+        lengths.extend([
+            right.swap_bytes(),
+            u16::from_be_bytes([high ^ 1 << self.below(8), low]),
+            u16::from_be_bytes([high, low ^ 1 << self.below(8)]),
+            u16::from_be_bytes([self.byte(), low]),
+            u16::from_be_bytes([high, self.byte()]),
+            u16::from_be_bytes([low, low]),
+            0,
+        ]);
+        lengths
+    }
+
     pub fn bytes(&mut self, count: usize) -> Vec<u8> {
         let mut bytes = Vec::with_capacity(count + 8);
         while bytes.len() < count {

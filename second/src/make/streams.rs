@@ -81,21 +81,8 @@ fn wrong_crcs(random: &mut Random, before: &[u8], container: usize) -> Vec<u32> 
 /// Lengths that are not the one that counts the container and the CRC: off by one, by the CRC, by the field itself, by
 /// the whole head, by 256, with one byte right, with the bytes exchanged.
 fn wrong_lengths(random: &mut Random, right: u16) -> Vec<u16> {
-    let [high, low] = right.to_be_bytes();
-    let more = [1, 2, 4, 6, 10, 255, 256, 512];
-    let less = [1, 2, 4, 6, 255, 256];
-    let mut lengths: Vec<u16> = more.iter().map(|more| right.wrapping_add(*more)).collect();
-    lengths.extend(less.iter().map(|less| right.wrapping_sub(*less)));
-    lengths.extend([
-        right.swap_bytes(),
-        u16::from_be_bytes([high ^ 1 << random.below(8), low]),
-        u16::from_be_bytes([high, low ^ 1 << random.below(8)]),
-        u16::from_be_bytes([random.byte(), low]),
-        u16::from_be_bytes([high, random.byte()]),
-        u16::from_be_bytes([low, low]),
-        0,
-        u16::MAX,
-    ]);
+    let mut lengths = random.lengths_near(right, &[1, 2, 4, 6, 10, 255, 256, 512], &[1, 2, 4, 6, 255, 256]);
+    lengths.push(u16::MAX);
     lengths.into_iter().map(|length| if length == right { right + 1 } else { length }).collect()
 }
 

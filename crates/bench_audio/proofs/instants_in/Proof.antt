@@ -5,8 +5,8 @@ use native.Mathlib.Nat.{mul-le-mul-right}
 use native.Mathlib.Numerals.{add-one}
 use native.Mathlib.Omega.{arith}
 use borrow.Author.Needs.{needs}
-use lib.ListN.{length, take, drop, length-drop}
-use lib.Seq.{take-all}
+use lib.ListN.{length, drop}
+use Rattle.laws.proofs.Lists.{tail-part}
 use Rattle.bench_audio.specs.Instants.{instantOf, instantIn, instantsIn}
 use Rattle.bench_audio.proofs.instants_in.Statement.{statement}
 use Rattle.bench_audio.proofs.instants_in.Tie as tie
@@ -59,7 +59,7 @@ loop-again c =
     let a = c .before .before .before .before .before .before .args in
     let more : l .i + 1 ≤ a .n = omega arith in
     let v = a .values .now in
-    let all : take (length v - l .at) (drop (l .at) v) ≡ drop (l .at) v = take-all (length v - l .at) (drop (l .at) v) (omega (arith, length-drop (l .at) v)) in
+    let all = tail-part v (l .at) in
     let i = c .before .instant-of .ensures ∙ ap (instantOf (a .mix)) (all ∙ ap (λ (k : ℕ). drop k v) (l .inv .1)) in
     (more, omega arith, omega (arith, mul-le-mul-right (a .mix) more), rw add-one (c .instant-in .ensures ∙ ap₂ (instantIn (a .rule) (a .d)) (l .inv .3) i))
 

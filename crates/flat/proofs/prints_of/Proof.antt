@@ -8,7 +8,7 @@ use lib.ListN.{set, take, drop, replicate, length-drop}
 use lib.Seq.{take-all}
 use Rattle.container.specs.declared.Print.{Print}
 use Rattle.container.specs.Contents.{blankPrint}
-use Rattle.container.proofs.Parts.{tail-part}
+use Rattle.laws.proofs.Lists.{tail-part}
 use Rattle.container.proofs.Runs.{fill-step}
 use Rattle.flat.specs.Unflat.{printOf, printsOf}
 use Rattle.flat.proofs.Places.{length-prints, print-at}

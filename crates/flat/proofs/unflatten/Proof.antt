@@ -9,7 +9,7 @@ use lib.ListN.{length, take, drop, replicate, length-drop}
 use lib.Seq.{length-take-le}
 use Rattle.laws.proofs.Tests.{tests}
 use Rattle.container.specs.declared.Contents.{Contents}
-use Rattle.container.proofs.Parts.{tail-part}
+use Rattle.laws.proofs.Lists.{tail-part}
 use Rattle.flat.specs.declared.Values.{Values}
 use Rattle.flat.specs.Unflat.{videoAt, printsOf, unflat}
 use Rattle.flat.proofs.Places.{sets-whole, unflat-is, contents-is}

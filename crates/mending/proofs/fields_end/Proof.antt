@@ -3,8 +3,8 @@ use Prim.Native.Nat.{_-_}
 use mathlib.Core.Path.{_≡_, sym, ap, _∙_}
 use native.Mathlib.Omega.{arith}
 use borrow.Author.Tests.{not-true, not-false}
-use lib.ListN.{length, drop, length-drop}
-use lib.Seq.{take-all}
+use lib.ListN.{length, drop}
+use Rattle.laws.proofs.Lists.{tail-part}
 use Rattle.mending.specs.Fields.{acceptable}
 use Rattle.mending.specs.Places.{Stretch}
 use Rattle.mending.proofs.Gaps.{none-behind}
@@ -45,7 +45,7 @@ here : (c : tie.After-starts-field Inv-loop μ-loop)
 here c =
     let end = c .before .before .before .loop .end in
     let s = c .before .before .before .before .before .before .args .recording .now in
-    c .starts-field .ensures ∙ ap acceptable (take-all (length s - end) (drop end s) (omega (arith, length-drop end s)))
+    c .starts-field .ensures ∙ ap acceptable (tail-part s end)
 
 returns : tie.Need-returns Inv-loop μ-loop
 returns c = (c .before .before .before .before .loop .inv, sym (here (c .before)) ∙ not-true _ (c .if1 .taken))

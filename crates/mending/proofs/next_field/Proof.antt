@@ -2,8 +2,8 @@
 use Prim.Native.Nat.{_+_, _-_, _≤_}
 use mathlib.Core.Path.{_≡_, refl, sym, ap, _∙_}
 use native.Mathlib.Omega.{arith}
-use lib.ListN.{length, drop, length-drop}
-use lib.Seq.{take-all}
+use lib.ListN.{length, drop}
+use Rattle.laws.proofs.Lists.{tail-part}
 use Rattle.mending.specs.Fields.{acceptable}
 use Rattle.mending.specs.Places.{gap}
 use Rattle.mending.proofs.Gaps.{gap-none, gap-step, gap-end}
@@ -38,7 +38,7 @@ here : (c : tie.After-starts-field Inv-loop μ-loop)
 here c =
     let at = c .before .before .before .loop .at in
     let s = c .before .before .before .before .before .args .recording .now in
-    c .starts-field .ensures ∙ ap acceptable (take-all (length s - at) (drop at s) (omega (arith, length-drop at s)))
+    c .starts-field .ensures ∙ ap acceptable (tail-part s at)
 
 returns : tie.Need-returns Inv-loop μ-loop
 returns c =

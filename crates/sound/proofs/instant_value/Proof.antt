@@ -1,10 +1,11 @@
 -- `sound::instant_value` meets its contract.
-use Prim.Native.Nat.{ℕ, _-_}
-use mathlib.Core.Path.{_≡_, ap, _∙_}
+use Prim.Native.Nat.{ℕ}
+use mathlib.Core.Path.{ap, _∙_}
 use native.Mathlib.Omega.{arith}
 use mathlib.Core.List.{List}
-use lib.ListN.{length, take, drop, replicate, length-drop}
-use lib.Seq.{sets, take-all}
+use lib.ListN.{replicate}
+use lib.Seq.{sets}
+use Rattle.laws.proofs.Lists.{tail-part}
 use Rattle.sound.specs.Mix.{instantValue}
 use Rattle.sound.proofs.Instants.{past-value, cut-value, few-bytes}
 use borrow.Author.Needs.{needs}
@@ -55,8 +56,7 @@ returns-3 : tie.Need-returns-3
 returns-3 c =
     let a = c .before .before .before .before .before .before .before .before .before .before .args in
     let b = a .block .now in
-    let all : take (length b - a .at) (drop (a .at) b) ≡ drop (a .at) b =
-    take-all (length b - a .at) (drop (a .at) b) (omega (arith, length-drop (a .at) b)) in
+    let all = tail-part b (a .at) in
     c .whole-value2 .ensures
     ∙ (ap (λ (l : List ℕ). instantValue (a .rule) (a .mix) l 0) (c .before .before .before .copy-at .ensures ∙ ap (sets (replicate 10 0) 0) all)
     ∙ cut-value (a .rule) (a .mix) b (a .at) (omega arith) (omega (arith, few-bytes (a .mix))))

@@ -7,7 +7,8 @@ use lib.Seq.{length-take-le}
 use Rattle.text.specs.Lines.{lastPlace, item}
 use Rattle.text.proofs.Pieces.{put-then, put-as}
 use Rattle.answers.specs.Lines.{hexPart, spillPart, handedLine}
-use Rattle.answers.proofs.Parts.{tail-is, least-within, least-take, least-drop}
+use Rattle.laws.proofs.Lists.{tail-part}
+use Rattle.answers.proofs.Parts.{least-within, least-take, least-drop}
 use borrow.Author.Needs.{needs}
 use Rattle.answers.proofs.say.say_handed.Statement.{statement}
 use Rattle.answers.proofs.say.say_handed.Tie as tie
@@ -65,7 +66,7 @@ returns c =
     let n = c .before .before .before .before .before .before .before .before .before .before .before .before .before .before .before .before .before .before .before .before .before .before .before .before .least .result in
     let h = fits (c .before .before .before .before .before .before .before .before .before .before .before .before .before .before .before .before .before .before .before .before .before .before .before .before .before .before .before) in
     let hex = put-as (ap (hexPart (a .done .number)) (ap (λ (k : ℕ). take k w) (c .before .before .before .before .before .before .before .before .before .before .before .before .before .before .before .before .before .before .before .before .before .before .before .before .least .ensures) ∙ least-take (a .done .written) w)) (c .before .before .before .before .before .before .before .before .before .before .before .before .put-written .ensures) in
-    let spill = put-as (ap spillPart (tail-is n w ∙ ap (λ (k : ℕ). drop k w) (c .before .before .before .before .before .before .before .before .before .before .before .before .before .before .before .before .before .before .before .before .before .before .before .before .least .ensures) ∙ least-drop (a .done .written) w)) (c .before .before .before .before .before .before .before .put-spill .ensures) in
+    let spill = put-as (ap spillPart (tail-part w n ∙ ap (λ (k : ℕ). drop k w) (c .before .before .before .before .before .before .before .before .before .before .before .before .before .before .before .before .before .before .before .before .before .before .before .before .least .ensures) ∙ least-drop (a .done .written) w)) (c .before .before .before .before .before .before .before .put-spill .ensures) in
     put-then (put-then (put-then (put-then (c .before .before .before .before .before .before .before .before .before .before .before .before .before .before .before .before .before .before .before .before .before .before .put-hand .ensures) (c .before .before .before .before .before .before .before .before .before .before .before .before .before .before .before .before .before .put-number .ensures) h) hex h) spill h) (c .before .before .put .ensures) h
 
 pub say-handed-spec : {M : Type 1} → statement M

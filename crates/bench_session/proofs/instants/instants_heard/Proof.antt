@@ -5,8 +5,8 @@ use native.Mathlib.Nat.{mul-le-mul-right}
 use native.Mathlib.Numerals.{add-one}
 use native.Mathlib.Omega.{arith}
 use borrow.Author.Needs.{needs}
-use lib.ListN.{length, take, drop, length-drop}
-use lib.Seq.{take-all}
+use lib.ListN.{length, drop}
+use Rattle.laws.proofs.Lists.{tail-part}
 use Rattle.floats.specs.declared.Instant.{Instant}
 use Rattle.session.specs.declared.Session.{Session}
 use Rattle.session.specs.declared.Sounded.{Sounded}
@@ -68,7 +68,7 @@ loop-again c =
     let a = c .before .before .before .before .before .before .before .before .args in
     let more : l .i + 1 ≤ a .n = omega arith in
     let v = a .values .now in
-    let all : take (length v - l .at) (drop (l .at) v) ≡ drop (l .at) v = take-all (length v - l .at) (drop (l .at) v) (omega (arith, length-drop (l .at) v)) in
+    let all = tail-part v (l .at) in
     let i = c .before .before .before .instant-of .ensures ∙ ap (instantOf (a .mix)) (all ∙ ap (λ (k : ℕ). drop k v) (l .inv .1)) in
     let heard = c .before .before .instant .ensures ∙ ap (λ (k : ℕ). session.instantOf (l .t) k (c .before .before .before .instant-of .result)) (l .inv .3) in
     let next = ap₂ (λ (t : Session) (j : Instant). session.instantOf t (turn (a .last) (l .i)) j) (l .inv .4) i in (

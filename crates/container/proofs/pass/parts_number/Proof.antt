@@ -8,7 +8,8 @@ use lib.ListN.{length, drop}
 use Rattle.container.specs.declared.AudioPart.{AudioPart}
 use Rattle.container.specs.declared.Reading.{Reading}
 use Rattle.container.specs.Parts.{videoPart, audioPart}
-use Rattle.container.proofs.Parts.{tail-part, id-within, video-within, audio-within, parts-25, parts-26, parts-27, parts-28, parts-0}
+use Rattle.laws.proofs.Lists.{tail-part}
+use Rattle.container.proofs.Parts.{id-within, video-within, audio-within, parts-25, parts-26, parts-27, parts-28, parts-0}
 use borrow.Author.Needs.{needs}
 use Rattle.container.proofs.pass.parts_number.Statement.{statement}
 use Rattle.container.proofs.pass.parts_number.Tie as tie

@@ -8,7 +8,7 @@ use borrow.Author.Tests.{eq-eqb, ne-eqb, le-leb, lt-leb, eqb-true, eqb-false}
 use lib.Dec.{eqb}
 use lib.ListN.{getD, drop}
 use Rattle.container.specs.Parts.{Run, runOf, audioOf, audioPart}
-use Rattle.container.proofs.Parts.{tail-part}
+use Rattle.laws.proofs.Lists.{tail-part}
 use Rattle.container.proofs.Passing.{run-ok, run-wrong}
 use borrow.Author.Needs.{needs}
 use Rattle.container.proofs.pass.pass_audio.Statement.{statement}

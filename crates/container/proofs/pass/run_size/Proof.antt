@@ -8,7 +8,8 @@ use borrow.Author.Tests.{not-true, not-false}
 use lib.ListN.{length, getD, drop}
 use Rattle.container.specs.Parts.{printPart, runOf}
 use Rattle.container.specs.Passing.{isAlike}
-use Rattle.container.proofs.Parts.{tail-part, PrintRight, print-right}
+use Rattle.laws.proofs.Lists.{tail-part}
+use Rattle.container.proofs.Parts.{PrintRight, print-right}
 use Rattle.container.proofs.Runs.{Going, going-start, going-bad}
 use Rattle.container.proofs.Passing.{print-none, print-some, right-takes, print-size, alike-takes, unlike-takes, no-run, Carried, carried-start, pass-wrong, pass-going, pass-carried, pass-within, pass-end}
 use Rattle.container.proofs.pass.run_size.Statement.{statement}

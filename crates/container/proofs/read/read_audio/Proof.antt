@@ -2,7 +2,7 @@
 use native.Mathlib.Omega.{arith}
 use Rattle.laws.proofs.Tests.{tests}
 use Rattle.container.specs.Parts.{audioPart}
-use Rattle.container.proofs.Parts.{tail-part}
+use Rattle.laws.proofs.Lists.{tail-part}
 use borrow.Author.Needs.{needs}
 use Rattle.container.proofs.read.read_audio.Statement.{statement}
 use Rattle.container.proofs.read.read_audio.Tie as tie

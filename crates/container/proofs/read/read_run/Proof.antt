@@ -12,7 +12,8 @@ use Rattle.container.specs.declared.Print.{Print}
 use Rattle.container.specs.declared.PrintPart.{PrintPart}
 use Rattle.container.specs.Contents.{blankPrint, sameCount}
 use Rattle.container.specs.Parts.{Run, printPart, runOf, audioOf}
-use Rattle.container.proofs.Parts.{tail-part, print-used}
+use Rattle.laws.proofs.Lists.{tail-part}
+use Rattle.container.proofs.Parts.{print-used}
 use Rattle.container.proofs.Runs.{fill-step, Going, going-start, going-step, going-bad, going-end, going-print, run-length, run-prints}
 use Rattle.container.proofs.read.read_run.Statement.{statement}
 use Rattle.container.proofs.read.read_run.Tie as tie

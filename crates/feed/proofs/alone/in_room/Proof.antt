@@ -1,7 +1,7 @@
 -- `feed::alone::in_room` meets its contract.
 use mathlib.Core.Path.{refl, sym, _∙_}
 use native.Mathlib.Omega.{arith}
-use Rattle.answers.proofs.Parts.{tail-is}
+use Rattle.laws.proofs.Lists.{tail-part}
 use Rattle.feed.proofs.Rooms.{Roomed, roomed}
 use Rattle.feed.proofs.Steps.{gives-as, room-none, lends}
 use borrow.Author.Needs.{needs}
@@ -45,7 +45,7 @@ same-length : tie.Need-same-length
 same-length c = search needs
 
 returns-2 : tie.Need-returns-2
-returns-2 c = lends (c .before .before .before .before .before .before .before .before .before .before .before .args .payload .now) _ _ _ _ _ (room (c .before .before .before .before .before) .lent) (c .before .before .before .before .before .before .before .before .before .before .before .pre) (c .before .before .before .before .before .before .before .before .before .before .before .args .tag) _ (sym (c .before .before .before .before .before .before .before .before .room-at .ensures) ∙ c .before .before .before .before .before .before .asked2 .given .1) (tail-is 2 (c .before .before .before .before .before .before .before .before .before .before .before .args .payload .now)) (c .before .before .lend .ensures)
+returns-2 c = lends (c .before .before .before .before .before .before .before .before .before .before .before .args .payload .now) _ _ _ _ _ (room (c .before .before .before .before .before) .lent) (c .before .before .before .before .before .before .before .before .before .before .before .pre) (c .before .before .before .before .before .before .before .before .before .before .before .args .tag) _ (sym (c .before .before .before .before .before .before .before .before .room-at .ensures) ∙ c .before .before .before .before .before .before .asked2 .given .1) (tail-part (c .before .before .before .before .before .before .before .before .before .before .before .args .payload .now) 2) (c .before .before .lend .ensures)
 
 pub in-room-spec : {M : Type 1} → statement M
 in-room-spec =

@@ -2,7 +2,7 @@
 use mathlib.Core.Path.{refl, sym, _∙_}
 use native.Mathlib.Omega.{arith}
 use Rattle.records.specs.Records.{byteAt}
-use Rattle.answers.proofs.Parts.{tail-is}
+use Rattle.laws.proofs.Lists.{tail-part}
 use Rattle.feed.proofs.Rooms.{Roomed, roomed}
 use Rattle.feed.proofs.Steps.{gives-as, sample-none, samples}
 use borrow.Author.Needs.{needs}
@@ -50,7 +50,7 @@ same-length c = search needs
 
 returns-2 : tie.Need-returns-2
 unfolding byteAt
-returns-2 c = samples (c .before .before .before .before .before .before .before .before .before .before .before .before .args .payload .now) _ _ _ _ _ (room (c .before .before .before .before .before .before) .lent) (c .before .before .before .before .before .before .before .before .before .before .before .before .pre) _ (sym (c .before .before .before .before .before .before .before .before .before .room-at .ensures) ∙ c .before .before .before .before .before .before .before .asked2 .given .1) (tail-is 3 (c .before .before .before .before .before .before .before .before .before .before .before .before .args .payload .now)) (c .before .before .sample-line .ensures .0) (c .before .before .sample-line .ensures .1)
+returns-2 c = samples (c .before .before .before .before .before .before .before .before .before .before .before .before .args .payload .now) _ _ _ _ _ (room (c .before .before .before .before .before .before) .lent) (c .before .before .before .before .before .before .before .before .before .before .before .before .pre) _ (sym (c .before .before .before .before .before .before .before .before .before .room-at .ensures) ∙ c .before .before .before .before .before .before .before .asked2 .given .1) (tail-part (c .before .before .before .before .before .before .before .before .before .before .before .before .args .payload .now) 3) (c .before .before .sample-line .ensures .0) (c .before .before .sample-line .ensures .1)
 
 pub sample-spec : {M : Type 1} → statement M
 sample-spec =

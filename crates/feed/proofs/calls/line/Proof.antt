@@ -4,7 +4,7 @@ use mathlib.Core.Path.{ap, _∙_}
 use lib.ListN.{length, drop}
 use Rattle.session.specs.Session.{lineOf}
 use Rattle.feed.specs.Calls.{lined, lineFed}
-use Rattle.answers.proofs.Parts.{tail-is}
+use Rattle.laws.proofs.Lists.{tail-part}
 use Rattle.feed.proofs.Steps.{when-enough, when-short}
 use borrow.Author.Needs.{needs}
 use Rattle.feed.proofs.calls.line.Statement.{statement}
@@ -37,7 +37,7 @@ unfolding lineFed lined
 returns-2 c =
     let a = c .before .before .before .before .before .before .args in
     let p = a .payload .now in
-    ap lined (c .before .line .ensures .0 ∙ ap (lineOf (a .s) (c .before .before .before .pair-at .result)) (tail-is 2 p) ∙ ap (λ (n : ℕ). lineOf (a .s) n (drop 2 p)) (c .before .before .before .pair-at .ensures .0)) ∙ when-enough 2 (length p) _ _ (c .before .before .before .before .if1 .left)
+    ap lined (c .before .line .ensures .0 ∙ ap (lineOf (a .s) (c .before .before .before .pair-at .result)) (tail-part p 2) ∙ ap (λ (n : ℕ). lineOf (a .s) n (drop 2 p)) (c .before .before .before .pair-at .ensures .0)) ∙ when-enough 2 (length p) _ _ (c .before .before .before .before .if1 .left)
 
 pub line-spec : {M : Type 1} → statement M
 line-spec =

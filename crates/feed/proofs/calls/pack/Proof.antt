@@ -2,7 +2,7 @@
 use mathlib.Core.Path.{sym, _∙_}
 use native.Mathlib.Omega.{arith}
 use Rattle.feed.specs.Calls.{doneOf, packed}
-use Rattle.answers.proofs.Parts.{tail-is}
+use Rattle.laws.proofs.Lists.{tail-part}
 use Rattle.feed.proofs.Rooms.{Roomed, roomed}
 use Rattle.feed.proofs.Steps.{does-as, pack-none, packs}
 use borrow.Author.Needs.{needs}
@@ -50,7 +50,7 @@ same-length c = search needs
 
 returns-2 : tie.Need-returns-2
 unfolding packed doneOf
-returns-2 c = packs (c .before .before .before .before .before .before .before .before .before .before .before .before .args .payload .now) _ _ _ _ _ (room (c .before .before .before .before .before .before) .lent) (c .before .before .before .before .before .before .before .before .before .before .before .before .pre) (c .before .before .before .before .before .before .before .before .before .before .before .before .args .s) (c .before .before .before .pack .result) (sym (c .before .before .before .before .before .before .before .before .before .room-at .ensures) ∙ c .before .before .before .before .before .before .before .asked2 .given .1) (tail-is 2 (c .before .before .before .before .before .before .before .before .before .before .before .before .args .payload .now)) (c .before .before .before .pack .ensures .0) (c .before .before .before .pack .ensures .1)
+returns-2 c = packs (c .before .before .before .before .before .before .before .before .before .before .before .before .args .payload .now) _ _ _ _ _ (room (c .before .before .before .before .before .before) .lent) (c .before .before .before .before .before .before .before .before .before .before .before .before .pre) (c .before .before .before .before .before .before .before .before .before .before .before .before .args .s) (c .before .before .before .pack .result) (sym (c .before .before .before .before .before .before .before .before .before .room-at .ensures) ∙ c .before .before .before .before .before .before .before .asked2 .given .1) (tail-part (c .before .before .before .before .before .before .before .before .before .before .before .before .args .payload .now) 2) (c .before .before .before .pack .ensures .0) (c .before .before .before .pack .ensures .1)
 
 pub pack-spec : {M : Type 1} → statement M
 pack-spec =

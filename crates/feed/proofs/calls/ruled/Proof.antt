@@ -6,7 +6,7 @@ use lib.ListN.{length, getD}
 use Rattle.records.specs.Records.{byteAt}
 use Rattle.session.specs.Session.{setupOf}
 use Rattle.feed.specs.Calls.{begun, ruledFed}
-use Rattle.answers.proofs.Parts.{tail-is}
+use Rattle.laws.proofs.Lists.{tail-part}
 use Rattle.feed.proofs.Steps.{when-enough, when-short}
 use borrow.Author.Needs.{needs}
 use Rattle.feed.proofs.calls.ruled.Statement.{statement}
@@ -44,7 +44,7 @@ returns-2 : tie.Need-returns-2
 unfolding ruledFed byteAt
 returns-2 c =
     let p = c .before .before .before .before .before .before .before .args .payload .now in
-    c .begin .ensures ∙ ap (λ (l : List ℕ). begun (setupOf (getD p 0 0) (getD p 1 0) (getD p 2 0) l)) (tail-is 3 p) ∙ when-enough 3 (length p) _ _ (c .before .before .before .before .before .if1 .left)
+    c .begin .ensures ∙ ap (λ (l : List ℕ). begun (setupOf (getD p 0 0) (getD p 1 0) (getD p 2 0) l)) (tail-part p 3) ∙ when-enough 3 (length p) _ _ (c .before .before .before .before .before .if1 .left)
 
 pub ruled-spec : {M : Type 1} → statement M
 ruled-spec =

@@ -6,7 +6,7 @@ use lib.ListN.{length, getD}
 use Rattle.records.specs.Records.{byteAt}
 use Rattle.session.specs.Session.{setupOf}
 use Rattle.feed.specs.Calls.{begun, setupFed}
-use Rattle.answers.proofs.Parts.{tail-is}
+use Rattle.laws.proofs.Lists.{tail-part}
 use Rattle.feed.proofs.Steps.{when-enough, when-short}
 use borrow.Author.Needs.{needs}
 use Rattle.feed.proofs.calls.setup.Statement.{statement}
@@ -41,7 +41,7 @@ returns-2 : tie.Need-returns-2
 unfolding setupFed byteAt
 returns-2 c =
     let p = c .before .before .before .before .before .before .args .payload .now in
-    c .begin .ensures ∙ ap (λ (l : List ℕ). begun (setupOf (getD p 0 0) (getD p 1 0) 1 l)) (tail-is 2 p) ∙ when-enough 2 (length p) _ _ (c .before .before .before .before .if1 .left)
+    c .begin .ensures ∙ ap (λ (l : List ℕ). begun (setupOf (getD p 0 0) (getD p 1 0) 1 l)) (tail-part p 2) ∙ when-enough 2 (length p) _ _ (c .before .before .before .before .if1 .left)
 
 pub setup-spec : {M : Type 1} → statement M
 setup-spec =

@@ -5,7 +5,7 @@ use lib.ListN.{length, getD}
 use Rattle.records.specs.Records.{byteAt}
 use Rattle.session.specs.Session.{soundOf}
 use Rattle.feed.specs.Calls.{sounded, soundFed}
-use Rattle.answers.proofs.Parts.{tail-is}
+use Rattle.laws.proofs.Lists.{tail-part}
 use Rattle.feed.proofs.Steps.{when-enough, when-short}
 use borrow.Author.Needs.{needs}
 use Rattle.feed.proofs.calls.sound.Statement.{statement}
@@ -41,7 +41,7 @@ unfolding soundFed sounded byteAt
 returns-2 c =
     let a = c .before .before .before .before .before .before .args in
     let p = a .payload .now in
-    ap sounded (c .before .sound .ensures ∙ ap (soundOf (a .s) (getD p 0 0)) (tail-is 1 p)) ∙ when-enough 1 (length p) _ _ (c .before .before .before .before .if1 .left)
+    ap sounded (c .before .sound .ensures ∙ ap (soundOf (a .s) (getD p 0 0)) (tail-part p 1)) ∙ when-enough 1 (length p) _ _ (c .before .before .before .before .if1 .left)
 
 pub sound-spec : {M : Type 1} → statement M
 sound-spec =

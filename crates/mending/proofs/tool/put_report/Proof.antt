@@ -8,8 +8,9 @@ use Rattle.text.specs.Lines.{Put}
 use Rattle.text.proofs.Pieces.{put-same}
 use Rattle.mending.specs.Report.{mendedText}
 use Rattle.mending.specs.Places.{gap}
+use Rattle.mending.proofs.Gaps.{next-lands}
 use Rattle.mending.proofs.Walks.{Turn, turn, count-size}
-use Rattle.mending.proofs.Lines.{Saying, saying-first, saying-next, saying-last, next-lands, count-over, count-field}
+use Rattle.mending.proofs.Lines.{Saying, saying-first, saying-next, saying-last, count-over, count-field}
 use borrow.Author.Needs.{needs}
 use Rattle.mending.proofs.tool.put_report.Statement.{statement}
 use Rattle.mending.proofs.tool.put_report.Tie as tie
@@ -49,7 +50,7 @@ module _ (c : tie.After-field-end Inv-loop μ-loop) where
   this next e = turn s at end next (c .before .before .before .before .before .loop-test .taken) (next-lands s (loop .loop .start) at (loop .loop .inv .1 .place)) (c .field-end .ensures) e
 
 next-field-requires : tie.Need-next-field-requires Inv-loop μ-loop
-next-field-requires c κs = this c (end c + gap (drop (end c) (s c))) refl .whole
+next-field-requires c κs = this c (end c + gap (drop (end c) (s c))) refl .stretch .within
 
 add-kept : tie.Need-add-kept Inv-loop μ-loop
 add-kept c =
@@ -59,7 +60,7 @@ add-kept c =
     omega (arith, l .inv .1 .count, count-over (s d) (l .start) (l .at) (l .inv .1 .place), count-field (s d) (l .at) (end d) _ t, count-size (s d) (λ k. omega (arith, c .before .before .before .before .before .before .before .before .before .shared-slice-known .given k)))
 
 loop-less : tie.Need-loop-less Inv-loop μ-loop
-loop-less c = let t = this (c .before) (c .next-field .result) (c .next-field .ensures) in omega (arith, t .goes-on, t .after, t .within)
+loop-less c = let t = this (c .before) (c .next-field .result) (c .next-field .ensures) in omega (arith, t .stretch .goes-on, t .after, t .within)
 
 loop-again : tie.Need-loop-again Inv-loop μ-loop
 loop-again c =

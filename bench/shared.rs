@@ -1,4 +1,18 @@
-// Containers for the programs that measure: a plain judge of their bytes, and a maker.
+// What the programs share that measure calls on bytes: the time of a call, and containers, a plain judge of their bytes and a maker.
+use std::hint::black_box;
+use std::time::Instant;
+
+// A call on bytes with a lent buffer: its number, and how many bytes it wrote.
+pub type Program = fn(&[u8], &mut [u8]) -> (u8, usize);
+
+// ns for a call
+pub fn time(program: Program, given: &[u8], out: &mut [u8], calls: usize) -> f64 {
+    let began = Instant::now();
+    for _ in 0..calls {
+        black_box(program(black_box(given), out));
+    }
+    began.elapsed().as_secs_f64() * 1e9 / calls as f64
+}
 
 // The counts of bytes that occur in the cadence of a rate (01, Table 13; 02, A2).
 fn occurs(rate: u8, count: usize) -> bool {
