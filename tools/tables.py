@@ -8,6 +8,7 @@
   REFUSALS[number]   what a refusal means
   NUMBERS[call]      the numbers that a call can answer, in the papers' order
   MENDED             the numbers that the program `mend` can tell, in the papers' order
+  RECEIVED[call]     the numbers that a call of the program `receive` can answer, in the papers' order
 
 All in the papers' words and order; nothing here is taken from a program.
 """
@@ -70,7 +71,7 @@ MIXES = {1: Mix(1, "mono", 1, "mono"), 2: Mix(2, "stereo", 2, "stereo"), 5: Mix(
 # 01, Audio; 02, A9.
 RULES = {1: "down, towards minus infinity", 2: "towards zero"}
 
-# 01, "What a caller is told", as 02's A3 (14), A5 (40 to 43), A7, A8 (50, 51) and A9 (1) leave it.
+# 01, "What a caller is told", as 02's A3 (14), A5 (40 to 43), A7, A8 (50, 51), A9 (1) and A12 (70 to 73) leave it.
 REFUSALS = {
     1: "format, rate pairing, mixing rule, fingerprint count or mix type not listed, or a session that is not set up",
     2: "line length not 2 x width",
@@ -107,6 +108,10 @@ REFUSALS = {
     43: "transport packet's CRC",
     50: "no acceptable field in the recording",
     51: "recording longer than 65,536 bytes",
+    70: "container late: its counter 128 or more from the expected one",
+    71: "container too far: its counter 8 to 127 from the expected one",
+    72: "container already held",
+    73: "next container not there",
 }
 
 READING = tuple(range(20, 29))
@@ -130,6 +135,11 @@ NUMBERS = {
 }
 # 02, A8: the program only reports, so that no room can be too short (12); 0 where it tells what is dropped and kept.
 MENDED = (0, 51, 50)
+# 02, A12: the calls as the program names them; giving up is never refused, and has no number.
+RECEIVED = {
+    "arrive": (0, *READING, 70, 71, 72),
+    "next": (0, 73, 12),
+}
 
 
 def format_named(name):

@@ -56,10 +56,10 @@ pub fn records(mut feed: &[u8]) -> Vec<(u8, Vec<u8>)> {
 }
 
 /// Reads the fixed part of a payload from its front.
-struct Payload<'a>(&'a [u8]);
+pub struct Payload<'a>(pub &'a [u8]);
 
 impl Payload<'_> {
-    fn byte(&mut self) -> Result<u8, BadRecord> {
+    pub fn byte(&mut self) -> Result<u8, BadRecord> {
         let (&first, rest) = self.0.split_first().ok_or(BadRecord)?;
         self.0 = rest;
         Ok(first)
@@ -84,7 +84,7 @@ impl Payload<'_> {
         Ok(values)
     }
 
-    fn room(&mut self) -> Result<usize, BadRecord> {
+    pub fn room(&mut self) -> Result<usize, BadRecord> {
         let room = usize::from(self.u16()?);
         if room > MOST_ROOM {
             return Err(BadRecord);
@@ -92,7 +92,7 @@ impl Payload<'_> {
         Ok(room)
     }
 
-    fn nothing_more(&self) -> Result<(), BadRecord> {
+    pub fn nothing_more(&self) -> Result<(), BadRecord> {
         if self.0.is_empty() {
             Ok(())
         } else {
@@ -102,7 +102,7 @@ impl Payload<'_> {
 }
 
 /// A line with a number and, on success, the bytes written.
-fn written(word: &str, answer: Result<Vec<u8>, u8>) -> String {
+pub fn written(word: &str, answer: Result<Vec<u8>, u8>) -> String {
     match answer {
         Ok(bytes) => {
             let hex: String = bytes.iter().map(|byte| format!("{byte:02x}")).collect();
@@ -234,23 +234,29 @@ fn by_itself(tag: u8, part: &mut Payload) -> Result<String, BadRecord> {
     })
 }
 
-/// Runs a whole feed, printing a line for each record; gives the desk back as the feed left it.
-pub fn run(input: &mut impl Read, output: &mut impl Write, exact: bool) -> io::Result<Desk> {
-    let mut desk = Desk { exact: exact.then(Tally::default), ..Desk::default() };
+/// Prints the line of each record's call, up to the end of the input or to a bad record.
+pub fn answer_each(
+    input: &mut impl Read,
+    output: &mut impl Write,
+    mut call: impl FnMut(u8, &[u8]) -> Result<String, BadRecord>,
+) -> io::Result<()> {
     loop {
         let answer = match next_record(input)? {
-            Next::End => break,
-            Next::Record { tag, payload } => desk.call(tag, &payload),
+            Next::End => return Ok(()),
+            Next::Record { tag, payload } => call(tag, &payload),
             Next::CutShort => Err(BadRecord),
         };
         match answer {
             Ok(line) => writeln!(output, "{line}")?,
-            Err(BadRecord) => {
-                writeln!(output, "bad record")?;
-                break;
-            }
+            Err(BadRecord) => return writeln!(output, "bad record"),
         }
     }
+}
+
+/// Runs a whole feed; gives the desk back as the feed left it.
+pub fn run(input: &mut impl Read, output: &mut impl Write, exact: bool) -> io::Result<Desk> {
+    let mut desk = Desk { exact: exact.then(Tally::default), ..Desk::default() };
+    answer_each(input, output, |tag, payload| desk.call(tag, payload))?;
     desk.examine_sound();
     Ok(desk)
 }

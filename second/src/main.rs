@@ -17,6 +17,9 @@ mod formats;
 mod inspect;
 mod make;
 mod packet;
+mod receiver;
+#[cfg(test)]
+mod receiver_tests;
 mod recording;
 #[cfg(test)]
 mod recording_tests;
@@ -35,6 +38,7 @@ const HELP: &str = "\
 second                  reads a feed from standard input and prints what `card` must print
 second inspect          reads up to 300 bytes of standard input as a container and prints one line
 second mend             reads up to 65,537 bytes of standard input as a recording and prints what `mend` must print
+second receive          reads records from standard input and prints what `receive` must print
 second exact            reads a feed and holds every audio bit and filter value to the exact filters
 second make KIND SEED   writes a random feed; the same KIND and SEED always give the same bytes
 second kinds            prints the names of the kinds
@@ -57,6 +61,13 @@ fn run_inspect() -> io::Result<ExitCode> {
 
 fn run_mend() -> io::Result<ExitCode> {
     print!("{}", recording::report_on(io::stdin().lock())?);
+    Ok(ExitCode::SUCCESS)
+}
+
+fn run_receive() -> io::Result<ExitCode> {
+    let mut output = BufWriter::new(io::stdout().lock());
+    receiver::run(&mut BufReader::new(io::stdin().lock()), &mut output)?;
+    output.flush()?;
     Ok(ExitCode::SUCCESS)
 }
 
@@ -95,6 +106,7 @@ fn main() -> io::Result<ExitCode> {
         [] => run_feed(),
         ["inspect"] => run_inspect(),
         ["mend"] => run_mend(),
+        ["receive"] => run_receive(),
         ["exact"] => run_exact(),
         ["make", kind, seed] => run_make(kind, seed),
         ["kinds"] => {

@@ -4,7 +4,7 @@ use mathlib.Core.List.{[], _∷_}
 use native.Mathlib.Omega.{arith}
 use lib.ListN.{length}
 use Rattle.answers.specs.declared.Hand.{Hand}
-use Rattle.answers.specs.declared.Hand.the-variants.{Pack, Sample, Rewrite, Wrap, Unwrap, Write, Stream, Unstream, Mend}
+use Rattle.answers.specs.declared.Hand.the-variants.{Pack, Sample, Rewrite, Wrap, Unwrap, Write, Stream, Unstream, Mend, Next}
 use Rattle.answers.specs.declared.Cause.{Cause}
 use Rattle.answers.specs.declared.Cause.the-variants.{UnknownTag, TooShort, TooLong, RoomAbove, IdPresent, VideoValues, UnusedPlace, OtherKind, CutShort}
 use Rattle.answers.specs.Lines.{handRow, handSize}
@@ -20,6 +20,7 @@ hand-within Write = (omega arith, omega arith)
 hand-within Stream = (omega arith, omega arith)
 hand-within Unstream = (omega arith, omega arith)
 hand-within Mend = (omega arith, omega arith)
+hand-within Next = (omega arith, omega arith)
 
 pub cause-within : (cause : Cause) → (causeSize cause ≤ length (causeRow cause)) × ((causeSize cause ≤ 49) × ((causeTags cause ≤ length (causeTag cause ∷ [])) × (causeTags cause ≤ 1)))
 cause-within (UnknownTag tag) = (omega arith, (omega arith, (omega arith, omega arith)))

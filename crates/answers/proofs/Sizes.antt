@@ -1,10 +1,10 @@
 -- How long what is said is at most.
 use Prim.Native.Nat.{ℕ, _+_, _≤_}
-use mathlib.Core.Path.{_≡_, refl, ap}
+use mathlib.Core.Path.{_≡_, refl, sym, ap, _∙_}
 use mathlib.Core.List.{List, [], _∷_, _++_}
 use native.Mathlib.Omega.{arith}
 use lib.ListN.{length, take, drop, length-append}
-use lib.Seq.{length-take-le}
+use lib.Seq.{sets, length-sets, length-take-le}
 use Rattle.laws.specs.declared.Done.{Done}
 use Rattle.text.specs.Spelling.{hexText}
 use Rattle.text.specs.Lines.{item, newline}
@@ -14,10 +14,10 @@ use Rattle.picture.specs.declared.Told.the-variants.{Open, Nothing, Value}
 use Rattle.answers.specs.declared.Cause.{Cause}
 use Rattle.answers.specs.declared.Hand.{Hand}
 use Rattle.answers.specs.declared.Answer.{Answer}
-use Rattle.answers.specs.declared.Answer.the-variants.{Setup, Line, Sound, Instant, VideoRestart, AudioRestart, Handed, Reported, Bad, Finished}
-use Rattle.answers.specs.Words.{setup, line, sound, instant, field, brighter, darker}
+use Rattle.answers.specs.declared.Answer.the-variants.{Setup, Line, Sound, Instant, VideoRestart, AudioRestart, Receiver, Arrive, GiveUp, Handed, Reported, Bad, Finished}
+use Rattle.answers.specs.Words.{setup, line, sound, instant, arrive, field, brighter, darker}
 use Rattle.answers.specs.Lines.{numberLine, fieldText, toldText, lineLine, handRow, handSize, handWord, hexPart, noSpill, handedLine, lineWith, saidOf, lineOf, Quiet}
-use Rattle.answers.specs.Faults.{causeRow, causeSize, causeTag, causeTags, recordWord, atByte, colon, causeText, faultText}
+use Rattle.answers.specs.Faults.{causeRow, causeSize, causeTag, causeTags, recordWord, atByte, colon, causeText, faultText, faultLine}
 use Rattle.answers.proofs.Watch.{hex-part-size, spill-none}
 use Rattle.answers.proofs.Rows.{hand-within, cause-within}
 
@@ -75,6 +75,9 @@ answer-fits (Sound n) left h q = omega (arith, number-size sound n)
 answer-fits (Instant n) left h q = omega (arith, number-size instant n)
 answer-fits VideoRestart left h q = omega arith
 answer-fits AudioRestart left h q = omega arith
+answer-fits Receiver left h q = omega arith
+answer-fits (Arrive n) left h q = omega (arith, number-size arrive n)
+answer-fits GiveUp left h q = omega arith
 answer-fits (Handed hand d) left h q = handed-size hand d left (q .0) h
 answer-fits (Reported size) left h q = omega (arith, length-take-le size left q)
 answer-fits (Bad cause) left h q = omega arith
@@ -89,11 +92,22 @@ quiet-said (Sound n) left q = refl
 quiet-said (Instant n) left q = refl
 quiet-said VideoRestart left q = refl
 quiet-said AudioRestart left q = refl
+quiet-said Receiver left q = refl
+quiet-said (Arrive n) left q = refl
+quiet-said GiveUp left q = refl
 quiet-said (Handed hand d) left q =
     ap (λ (l : List ℕ). item (handWord hand) (d .number) ++ hexPart (d .number) (take (d .written) left) ++ l ++ newline) (spill-none (drop (d .written) left) (q .1))
 quiet-said (Reported size) left q = refl
 quiet-said (Bad cause) left q = refl
 quiet-said Finished left q = refl
+
+-- a buffer of 8,256 bytes holds such a line
+pub line-held : (line o o′ : List ℕ) (size : ℕ) → length line ≤ 8256 → length o ≡ 8256 → size ≡ length line → o′ ≡ sets o 0 line
+    → (size ≤ length o′) × (size ≡ length (take size o′))
+line-held line o o′ size f e p q =
+    let l : length o′ ≡ 8256 = ap length q ∙ length-sets o 0 line ∙ e in
+    let h : size ≤ length o′ = omega arith in
+    (h, sym (length-take-le size o′ h))
 
 -- ---- what is said of a bad record
 
@@ -110,7 +124,7 @@ cause-size c =
       length-take-le (causeTags c) (causeTag c ∷ []) (h .1 .1 .0),
     )
 
-pub fault-size : (number byte : ℕ) (c : Cause) → length (faultText number byte c) ≤ 112
+fault-size : (number byte : ℕ) (c : Cause) → length (faultText number byte c) ≤ 112
 unfolding faultText
 fault-size number byte c =
     let a : List ℕ = item recordWord number in
@@ -123,4 +137,16 @@ fault-size number byte c =
       item-size recordWord number,
       item-size atByte byte,
       cause-size c,
+    )
+
+pub fault-line-size : (program : List ℕ) (number byte : ℕ) (c : Cause) → length (faultLine program number byte c) ≤ length program + 115
+unfolding faultLine
+fault-line-size program number byte c =
+    let f : List ℕ = faultText number byte c in
+    omega (
+      arith,
+      length-append (program ++ colon ++ f) newline,
+      length-append (program ++ colon) f,
+      length-append program colon,
+      fault-size number byte c,
     )

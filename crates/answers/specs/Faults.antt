@@ -3,7 +3,7 @@ use Prim.Native.Nat.{ℕ}
 use mathlib.Core.List.{List, [], _∷_, _++_}
 use lib.ListN.{take}
 use Rattle.text.specs.Spelling.{hexText}
-use Rattle.text.specs.Lines.{item}
+use Rattle.text.specs.Lines.{item, newline}
 use Rattle.answers.specs.declared.Cause.{Cause}
 use Rattle.answers.specs.declared.Cause.the-variants.{UnknownTag, TooShort, TooLong, RoomAbove, IdPresent, VideoValues, UnusedPlace, OtherKind, CutShort}
 
@@ -80,3 +80,7 @@ colon = 58 ∷ 32 ∷ []
 -- records count from 1, bytes from 0
 unfoldable pub faultText : ℕ → ℕ → Cause → List ℕ
 faultText number byte cause = item recordWord number ++ item atByte byte ++ colon ++ causeText cause
+
+-- as `card: record 17, at byte 40321: unknown tag 0x1f`
+unfoldable pub faultLine : List ℕ → ℕ → ℕ → Cause → List ℕ
+faultLine program number byte cause = program ++ colon ++ faultText number byte cause ++ newline

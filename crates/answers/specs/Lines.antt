@@ -11,10 +11,10 @@ use Rattle.text.specs.Lines.{item, space, newline}
 use Rattle.picture.specs.declared.Told.{Told}
 use Rattle.picture.specs.declared.Told.the-variants.{Open, Nothing, Value}
 use Rattle.answers.specs.declared.Hand.{Hand}
-use Rattle.answers.specs.declared.Hand.the-variants.{Pack, Sample, Rewrite, Wrap, Unwrap, Write, Stream, Unstream, Mend}
+use Rattle.answers.specs.declared.Hand.the-variants.{Pack, Sample, Rewrite, Wrap, Unwrap, Write, Stream, Unstream, Mend, Next}
 use Rattle.answers.specs.declared.Answer.{Answer}
-use Rattle.answers.specs.declared.Answer.the-variants.{Setup, Line, Sound, Instant, VideoRestart, AudioRestart, Handed, Reported, Bad, Finished}
-use Rattle.answers.specs.Words.{setup, line, sound, instant, field, brighter, darker, fieldNone, videoRestart, audioRestart, spilled, bad}
+use Rattle.answers.specs.declared.Answer.the-variants.{Setup, Line, Sound, Instant, VideoRestart, AudioRestart, Receiver, Arrive, GiveUp, Handed, Reported, Bad, Finished}
+use Rattle.answers.specs.Words.{setup, line, sound, instant, field, brighter, darker, fieldNone, videoRestart, audioRestart, receiver, arrive, giveUp, spilled, bad}
 
 -- `word N`
 unfoldable pub numberLine : List ℕ → ℕ → List ℕ
@@ -44,6 +44,7 @@ handRow Write = 119 ∷ 114 ∷ 105 ∷ 116 ∷ 101 ∷ 32 ∷ 32 ∷ 32 ∷ 32 
 handRow Stream = 115 ∷ 116 ∷ 114 ∷ 101 ∷ 97 ∷ 109 ∷ 32 ∷ 32 ∷ 32 ∷ []
 handRow Unstream = 117 ∷ 110 ∷ 115 ∷ 116 ∷ 114 ∷ 101 ∷ 97 ∷ 109 ∷ 32 ∷ []
 handRow Mend = 109 ∷ 101 ∷ 110 ∷ 100 ∷ 32 ∷ 32 ∷ 32 ∷ 32 ∷ 32 ∷ []
+handRow Next = 110 ∷ 101 ∷ 120 ∷ 116 ∷ 32 ∷ 32 ∷ 32 ∷ 32 ∷ 32 ∷ []
 
 abbrev pub handSize : Hand → ℕ
 handSize Pack = 5
@@ -55,6 +56,7 @@ handSize Write = 6
 handSize Stream = 7
 handSize Unstream = 9
 handSize Mend = 5
+handSize Next = 5
 
 unfoldable pub handWord : Hand → List ℕ
 handWord hand = take (handSize hand) (handRow hand)
@@ -100,6 +102,9 @@ lineWith spill (Sound number) left = numberLine sound number
 lineWith spill (Instant number) left = numberLine instant number
 lineWith spill VideoRestart left = videoRestart ++ newline
 lineWith spill AudioRestart left = audioRestart ++ newline
+lineWith spill Receiver left = receiver ++ newline
+lineWith spill (Arrive number) left = numberLine arrive number
+lineWith spill GiveUp left = giveUp ++ newline
 lineWith spill (Handed hand d) left = handedLine spill hand d left
 lineWith spill (Reported size) left = take size left
 lineWith spill (Bad cause) left = bad ++ newline
@@ -122,5 +127,8 @@ Quiet (Sound number) left = 0 ≤ 0
 Quiet (Instant number) left = 0 ≤ 0
 Quiet VideoRestart left = 0 ≤ 0
 Quiet AudioRestart left = 0 ≤ 0
+Quiet Receiver left = 0 ≤ 0
+Quiet (Arrive number) left = 0 ≤ 0
+Quiet GiveUp left = 0 ≤ 0
 Quiet (Bad cause) left = 0 ≤ 0
 Quiet Finished left = 0 ≤ 0

@@ -42,6 +42,18 @@ videoRestart = 118 ∷ 105 ∷ 100 ∷ 101 ∷ 111 ∷ 32 ∷ 114 ∷ 101 ∷ 11
 abbrev pub audioRestart : List ℕ
 audioRestart = 97 ∷ 117 ∷ 100 ∷ 105 ∷ 111 ∷ 32 ∷ 114 ∷ 101 ∷ 115 ∷ 116 ∷ 97 ∷ 114 ∷ 116 ∷ []
 
+-- `receiver`
+abbrev pub receiver : List ℕ
+receiver = 114 ∷ 101 ∷ 99 ∷ 101 ∷ 105 ∷ 118 ∷ 101 ∷ 114 ∷ []
+
+-- `arrive `
+abbrev pub arrive : List ℕ
+arrive = 97 ∷ 114 ∷ 114 ∷ 105 ∷ 118 ∷ 101 ∷ 32 ∷ []
+
+-- `give up`
+abbrev pub giveUp : List ℕ
+giveUp = 103 ∷ 105 ∷ 118 ∷ 101 ∷ 32 ∷ 117 ∷ 112 ∷ []
+
 -- ` spilled`
 abbrev pub spilled : List ℕ
 spilled = 32 ∷ 115 ∷ 112 ∷ 105 ∷ 108 ∷ 108 ∷ 101 ∷ 100 ∷ []

@@ -1,7 +1,7 @@
 // What is said of a bad record beside its line: where it stands in the feed, and why it is bad.
 ghost use mathlib.Core.Path.{_≡_};
 ghost use Rattle.text.specs.Lines.{Put};
-ghost use Rattle.answers.specs.Faults.{causeRow, causeSize, causeTag, causeTags, causeText, faultText};
+ghost use Rattle.answers.specs.Faults.{causeRow, causeSize, causeTag, causeTags, causeText, faultText, faultLine};
 use crate::Cause;
 
 // A cause's words, filled up with spaces.
@@ -82,11 +82,21 @@ fn put_cause(cause: Cause, out: &mut [u8], at: usize) -> usize
 }
 
 // `record N, at byte P: ` and the cause.
-pub fn put_fault(number: u64, byte: u64, cause: Cause, out: &mut [u8], at: usize) -> usize
+fn put_fault(number: u64, byte: u64, cause: Cause, out: &mut [u8], at: usize) -> usize
     ensures { λ r. ⌜ Put (now (out .entry)) at (faultText number byte cause) (now (out .exit)) r ⌝ }
 {
     let p = text::put_item(b"record ", number, out, at);
     let q = text::put_item(b", at byte ", byte, out, p);
     let e = text::put(b": ", out, q);
     put_cause(cause, out, e)
+}
+
+// The line that a program prints of a bad record; it starts with the program's name.
+pub fn say_fault(program: &[u8], number: u64, byte: u64, cause: Cause, out: &mut [u8]) -> usize
+    ensures { λ r. ⌜ Put (now (out .entry)) 0 (faultLine (now (program .entry)) number byte cause) (now (out .exit)) r ⌝ }
+{
+    let p = text::put(program, out, 0);
+    let q = text::put(b": ", out, p);
+    let e = put_fault(number, byte, cause, out, q);
+    text::put(b"\n", out, e)
 }

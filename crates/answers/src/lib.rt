@@ -2,6 +2,7 @@
 use laws::Done;
 use picture::Told;
 
+pub mod asks;
 pub mod fault;
 pub mod say;
 
@@ -29,6 +30,13 @@ pub enum Hand {
     Stream,
     Unstream,
     Mend,
+    Next,
+}
+
+// A room that a record asks for, or why it has none.
+pub enum Room {
+    Of(usize),
+    Not(Cause),
 }
 
 // What the call of a record answers. Bytes that it hands out lie at the front of the work buffer.
@@ -39,6 +47,9 @@ pub enum Answer {
     Instant(u8),
     VideoRestart,
     AudioRestart,
+    Receiver,
+    Arrive(u8),
+    GiveUp,
     Handed(Hand, Done),
     // 21h: the size of its line, which lies at the front of the work buffer.
     Reported(usize),

@@ -63,6 +63,7 @@ fn hand_row(hand: Hand) -> [u8; 9]
         Hand::Stream => *b"stream   ",
         Hand::Unstream => *b"unstream ",
         Hand::Mend => *b"mend     ",
+        Hand::Next => *b"next     ",
     }
 }
 
@@ -79,6 +80,7 @@ fn hand_size(hand: Hand) -> usize
         Hand::Stream => 7,
         Hand::Unstream => 9,
         Hand::Mend => 5,
+        Hand::Next => 5,
     }
 }
 
@@ -166,6 +168,9 @@ pub fn say(a: Answer, work: &[u8], out: &mut [u8]) -> usize
         Answer::Instant(n) => say_number(b"instant ", n, out),
         Answer::VideoRestart => text::put(b"video restart\n", out, 0),
         Answer::AudioRestart => text::put(b"audio restart\n", out, 0),
+        Answer::Receiver => text::put(b"receiver\n", out, 0),
+        Answer::Arrive(n) => say_number(b"arrive ", n, out),
+        Answer::GiveUp => text::put(b"give up\n", out, 0),
         Answer::Handed(hand, done) => say_handed(hand, done, work, out),
         Answer::Reported(size) => say_reported(size, work, out),
         Answer::Bad(cause) => text::put(b"bad record\n", out, 0),

@@ -2,7 +2,6 @@
 ghost use mathlib.Core.Path.{_≡_};
 ghost use lib.ListN.{length};
 use answers::Answer;
-use answers::Cause;
 use session::Session;
 
 // What a record was answered, the session that the next one finds, and how many bytes the record has.
@@ -43,27 +42,6 @@ fn answer_next(s: Session, bytes: &mut [u8], line: &mut [u8]) -> Turn
     }
 }
 
-// `card: record N, at byte P: ` and why the record is bad.
-fn complain(number: u64, byte: u64, cause: Cause) {
-    let mut line = [0u8; 128];
-    let a = text::put(b"card: ", &mut line, 0);
-    let b = answers::fault::put_fault(number, byte, cause, &mut line, a);
-    let size = text::put(b"\n", &mut line, b);
-    io::write_all(2, &line[..size]);
-}
-
-// Whether the feed stops at an answer; of a bad record it is said why.
-fn stops(answer: Answer, number: u64, byte: u64) -> bool {
-    match answer {
-        Answer::Bad(cause) => {
-            complain(number, byte, cause);
-            true
-        }
-        Answer::Finished => true,
-        _ => false,
-    }
-}
-
 fn main() {
     let mut bytes = record_room();
     let mut line = line_room();
@@ -74,7 +52,7 @@ fn main() {
         left -= 1;
         let turn = answer_next(session, &mut bytes, &mut line);
         let answer = turn.answer;
-        if stops(answer, 18446744073709551615 - left, byte) {
+        if intake::stops(b"card", answer, 18446744073709551615 - left, byte) {
             return;
         }
         session = turn.session;

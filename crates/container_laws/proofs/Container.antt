@@ -5,7 +5,7 @@ use mathlib.Core.Path.{_≡_, refl, ap, sym, subst, _∙_}
 use mathlib.Core.Bool.{Bool, true, false, cond}
 use mathlib.Core.Logic.{_↔_}
 use native.Mathlib.Omega.{arith}
-use lib.ListN.{length, take}
+use lib.ListN.{length, getD, take}
 use lib.Dec.{ltb, eqb}
 use borrow.Author.Tests.{le-ltb}
 use Rattle.laws.specs.Bytes.{Bytes}
@@ -23,7 +23,7 @@ use Rattle.container.proofs.Bytes as bytes
 use Rattle.container.proofs.Outcome.{write-0}
 use Rattle.container_laws.specs.Typed.{Typed}
 use Rattle.container_laws.specs.Given.{ReadAs}
-use Rattle.container_laws.proofs.Back.{written-again}
+use Rattle.container_laws.proofs.Back.{accepted-is, written-again}
 use Rattle.container_laws.proofs.There.{read-as-written}
 use Rattle.container_laws.proofs.Gives.{reading-readable}
 use Rattle.container_laws.proofs.Sizes.{accepted-sized, encode-bytes}
@@ -87,6 +87,10 @@ room-enough c room t h = go (readable c) refl
 -- an accepted container has 5 to 254 bytes
 pub accepted-size : (s : List ℕ) → Bytes s → reading s .number ≡ 0 → (5 ≤ length s) × (length s ≤ 254)
 accepted-size s b e = accepted-sized s b e
+
+-- and its counter is its second byte
+pub accepted-counter : (s : List ℕ) → reading s .number ≡ 0 → reading s .contents .counter ≡ getD s 1 0
+accepted-counter s e = ap (λ (r : Reading). r .contents .counter) (accepted-is s e .says)
 
 -- ---- round trips
 

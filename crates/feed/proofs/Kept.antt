@@ -1,16 +1,12 @@
 -- What each call with a room does with the buffer lent: it counts no more than the room, and keeps the bytes beyond those counted. So ` spilled` never comes.
 use Prim.Native.Nat.{ℕ, _-_, _≤_}
-use mathlib.Core.Path.{_≡_, refl, ap, subst, _∙_}
-use mathlib.Core.List.{List, _++_}
+use mathlib.Core.Path.{_≡_, refl, subst}
+use mathlib.Core.List.{List}
 use mathlib.Core.Bool.{Bool, true, false, cond}
 use native.Mathlib.Omega.{arith}
-use lib.ListN.{length, take, drop, length-append, length-drop}
-use lib.Seq.{drop-append-seam}
+use lib.ListN.{length, take, drop}
 use lib.Dec.{leb, ltb, eqb}
-use borrow.Author.Tests.{eqb-true}
-use Rattle.laws.specs.declared.Done.{Done}
-use Rattle.laws.specs.Calls.{over, roomNumber, doneWith, outWith}
-use Rattle.laws.proofs.Calls.{told-zero}
+use Rattle.laws.specs.Calls.{doneWith}
 use Rattle.laws.proofs.Tests.{chosen}
 use Rattle.sampling.specs.Samples.{sampleNumber, pixels, sampleDone, sampleOut}
 use Rattle.sampling.specs.Formats.{rowOf}
@@ -34,50 +30,23 @@ use Rattle.report.proofs.Sizes.{reported-size}
 use Rattle.records.specs.declared.Record.{Record}
 use Rattle.records.specs.declared.Record.the-variants.{Whole, Cut, End}
 use Rattle.records.specs.Records.{byteAt, recordAt}
-use Rattle.answers.specs.declared.Cause.{Cause}
 use Rattle.answers.specs.declared.Cause.the-variants.{UnknownTag, CutShort}
-use Rattle.answers.specs.declared.Hand.{Hand}
 use Rattle.answers.specs.declared.Hand.the-variants.{Pack, Sample, Rewrite, Wrap, Unwrap, Write, Stream, Unstream, Mend}
-use Rattle.feed.specs.declared.Room.{Room}
-use Rattle.feed.specs.declared.Room.the-variants.{Of, Not}
+use Rattle.answers.specs.declared.Room.{Room}
+use Rattle.answers.specs.declared.Room.the-variants.{Of, Not}
 use Rattle.feed.specs.declared.Brought.{Brought}
 use Rattle.feed.specs.declared.Brought.the-variants as brought
-use Rattle.answers.specs.declared.Answer.{Answer}
-use Rattle.answers.specs.declared.Answer.the-variants.{Setup, Line, Sound, Instant, VideoRestart, AudioRestart, Handed, Reported, Bad, Finished}
+use Rattle.answers.specs.declared.Answer.the-variants.{Instant, Reported, Finished}
 use Rattle.feed.specs.declared.Answered.{Answered}
-use Rattle.answers.specs.Lines.{untouched, fresh, isUntouched, Quiet}
-use Rattle.feed.specs.Alone.{Reply, inWork, roomAt, sampleLent, sampleIn, sampleFed, readFed, rewriteDone, rewriteOut, writeLent, carriedFed, lentFed, roomIn, roomFed, aloneFed}
+use Rattle.answers.specs.Lines.{untouched, fresh, Quiet}
+use Rattle.answers.specs.Rooms.{roomAt}
+use Rattle.feed.specs.Alone.{Reply, inWork, sampleLent, sampleIn, sampleFed, readFed, rewriteDone, rewriteOut, writeLent, carriedFed, lentFed, roomIn, roomFed, aloneFed}
 use Rattle.feed.specs.Values.{instantIn}
 use Rattle.feed.specs.Calls.{Step, begun, lined, sounded, instanted, doneOf, packed, setupFed, ruledFed, lineFed, soundFed, packIn, packFed, restartFed, instantWith, instantFed, sessionFed}
 use Rattle.feed.specs.Feed.{leaves, fed, recordFed, front}
-use Rattle.answers.proofs.Watch.{untouched-is, untouched-size, untouched-drop, work-size, work-untouched}
-use Rattle.feed.proofs.Rooms.{room-most}
-
-pub record Kept (lent : List ℕ) (written : ℕ) (left : List ℕ) : Type 0 where
-  pub within : written ≤ length lent
-  pub same : length left ≡ length lent
-  pub beyond : drop written left ≡ drop written lent
-
--- a refusal, and a call that writes what it has room for
-pub none-kept : (lent : List ℕ) → Kept lent 0 lent
-none-kept lent = record { within = omega arith; same = refl; beyond = refl }
-
-pub call-kept : (number : ℕ) (bytes lent : List ℕ) → Kept lent (doneWith (roomNumber number bytes (length lent)) bytes .written) (outWith (roomNumber number bytes (length lent)) bytes lent)
-unfolding doneWith outWith over
-call-kept number bytes lent = go (eqb n 0) refl
-  where
-    n : ℕ
-    n = roomNumber number bytes (length lent)
-
-    go : (t : Bool) → eqb n 0 ≡ t → Kept lent (cond t (length bytes) 0) (cond t (bytes ++ drop (length bytes) lent) lent)
-    go false e = none-kept lent
-    go true e =
-        let h : length bytes ≤ length lent = told-zero number bytes (length lent) (eqb-true n 0 e) .1 in
-        record {
-          within = h;
-          same = omega (arith, length-append bytes (drop (length bytes) lent), length-drop (length bytes) lent);
-          beyond = drop-append-seam bytes (drop (length bytes) lent);
-        }
+use Rattle.answers.proofs.Watch.{untouched-size}
+use Rattle.answers.proofs.Rooms.{room-most}
+use Rattle.answers.proofs.Held.{Kept, none-kept, call-kept, InRoom, Held, held-work, handed-in, none-held, bad-in, bad-held}
 
 pub sample-kept : (format : ℕ) (line lent : List ℕ) → Kept lent (sampleDone format line lent .written) (sampleOut format line lent)
 unfolding sampleDone sampleOut
@@ -138,52 +107,15 @@ pack-kept s id lent = go (eqb (packNumber s (length id)) 0)
     go true = inner (eqb (writeDone k (length lent) .number) 0) refl
     go false = none-kept lent
 
--- ---- a call in its room, and the work buffer of which the room is the front
+-- ---- a call in its room
 
--- what a call with a room gives: the room's size stays, and its answer is quiet there
-abbrev pub InRoom : ℕ → Reply → Type 0
-InRoom room r = (length (r .left) ≡ room) × Quiet (r .answer) (r .left)
+abbrev pub RoomReply : ℕ → Reply → Type 0
+RoomReply room r = InRoom room (r .answer) (r .left)
 
--- what a record gives: the work buffer's size stays, and the answer is quiet
-abbrev pub Held : Answer → List ℕ → Type 0
-Held a left = (length left ≡ 4096) × Quiet a left
-
-quiet-work : (a : Answer) (left : List ℕ) → length left ≤ 4096 → Quiet a left → Quiet a (over left fresh)
-unfolding Quiet
-quiet-work (Handed hand d) left h q = (omega (arith, work-size left h), work-untouched (d .written) left (q .0) (q .1))
-quiet-work (Reported size) left h q = omega (arith, work-size left h)
-quiet-work (Setup n) left h q = q
-quiet-work (Line n told) left h q = q
-quiet-work (Sound n) left h q = q
-quiet-work (Instant n) left h q = q
-quiet-work VideoRestart left h q = q
-quiet-work AudioRestart left h q = q
-quiet-work (Bad cause) left h q = q
-quiet-work Finished left h q = q
-
-held-work : (a : Answer) (left : List ℕ) → length left ≤ 4096 → Quiet a left → Held a (over left fresh)
-held-work a left h q = (work-size left h, quiet-work a left h q)
-
--- a call that keeps the bytes beyond those counted
-handed-in : (hand : Hand) (d : Done) (room : ℕ) (left : List ℕ) → Kept (untouched room) (d .written) left → InRoom room (record { answer = Handed hand d; left = left })
-unfolding Quiet
-handed-in hand d room left k = (
-  k .same ∙ untouched-size room,
-  (omega (arith, k .within, k .same), ap isUntouched (k .beyond) ∙ untouched-drop (d .written) (untouched room) (untouched-is room)),
-)
-
--- the buffer is given back as it was lent
-back : (a : Answer) (room : ℕ) → Quiet a (untouched room) → InRoom room (record { answer = a; left = untouched room })
-back a room q = (untouched-size room, q)
-
-bad-in : (cause : Cause) (room : ℕ) → InRoom room (record { answer = Bad cause; left = untouched room })
-unfolding Quiet
-bad-in cause room = back (Bad cause) room (omega arith)
-
-carried-in : (tag : ℕ) (rest : List ℕ) (room : ℕ) → InRoom room (carriedFed tag rest (untouched room))
+carried-in : (tag : ℕ) (rest : List ℕ) (room : ℕ) → RoomReply room (carriedFed tag rest (untouched room))
 unfolding carriedFed
 carried-in tag rest room =
-    let P : Reply → Type 0 = InRoom room in
+    let P : Reply → Type 0 = RoomReply room in
     let lent : List ℕ = untouched room in
     chosen P (eqb tag 0x23) _ _ (λ _. handed-in Wrap _ room _ (wrap-kept rest lent))
     (λ _. chosen P (eqb tag 0x24) _ _ (λ _. handed-in Unwrap _ room _ (unwrap-kept rest lent))
@@ -192,10 +124,10 @@ carried-in tag rest room =
     (λ _. chosen P (eqb tag 0x28) _ _ (λ _. handed-in Mend _ room _ (mend-kept rest lent))
     (λ _. bad-in _ room)))))
 
-pub lent-in : (tag : ℕ) (rest : List ℕ) (room : ℕ) → InRoom room (lentFed tag rest (untouched room))
+pub lent-in : (tag : ℕ) (rest : List ℕ) (room : ℕ) → RoomReply room (lentFed tag rest (untouched room))
 unfolding lentFed writeLent
 lent-in tag rest room =
-    let P : Reply → Type 0 = InRoom room in
+    let P : Reply → Type 0 = RoomReply room in
     let lent : List ℕ = untouched room in
     chosen P (eqb tag 0x22) _ _ (λ _. handed-in Rewrite _ room _ (rewrite-kept rest lent))
     (λ _. chosen P (eqb tag 0x25) _ _ (λ _. chosen P (unflat rest .ok) _ _ (λ _. handed-in Write _ room _ (write-kept (unflat rest .contents) lent)) (λ _. bad-in _ room))
@@ -209,14 +141,7 @@ HeldReply r = Held (r .answer) (r .left)
 abbrev HeldStep : Step → Type 0
 HeldStep t = Held (t .answered .answer) (t .left)
 
-none-held : (a : Answer) → Quiet a fresh → Held a fresh
-none-held a q = (untouched-size 4096, q)
-
-bad-held : (cause : Cause) → Held (Bad cause) fresh
-unfolding Quiet
-bad-held cause = none-held (Bad cause) (omega arith)
-
-in-held : (room : ℕ) (r : Reply) → room ≤ 4096 → InRoom room r → HeldReply (inWork r)
+in-held : (room : ℕ) (r : Reply) → room ≤ 4096 → RoomReply room r → HeldReply (inWork r)
 unfolding inWork
 in-held room r h q = held-work (r .answer) (r .left) (omega (arith, q .0)) (q .1)
 

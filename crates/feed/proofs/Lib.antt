@@ -1,4 +1,3 @@
-pub mod Rooms
 pub mod Instants
 pub mod Kept
 pub mod Sizes

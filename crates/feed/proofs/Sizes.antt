@@ -1,12 +1,13 @@
 -- How long the lines are at most: a buffer of 8,256 bytes holds each.
 use Prim.Native.Nat.{ℕ, _≤_}
-use mathlib.Core.Path.{_≡_, sym, ap, _∙_}
+use mathlib.Core.Path.{_≡_}
 use mathlib.Core.List.{List}
 use native.Mathlib.Omega.{arith}
 use lib.ListN.{length, take}
-use lib.Seq.{sets, length-sets, length-take-le}
+use lib.Seq.{sets}
 use Rattle.session.specs.declared.Session.{Session}
 use Rattle.answers.proofs.Sizes.{answer-fits}
+use Rattle.answers.proofs.Sizes as answers
 use Rattle.feed.specs.Feed.{stepLine, lineNext}
 use Rattle.feed.proofs.Kept.{front-held}
 
@@ -15,9 +16,6 @@ pub next-fits : (s : Session) (bytes : List ℕ) → length (lineNext s bytes) �
 unfolding lineNext stepLine
 next-fits s bytes = let h = front-held s bytes in answer-fits _ _ (omega (arith, h .0)) (h .1)
 
--- a buffer of 8,256 bytes holds the line
-pub line-held : (s : Session) (bytes o o′ : List ℕ) (size : ℕ) → length o ≡ 8256 → size ≡ length (lineNext s bytes) → o′ ≡ sets o 0 (lineNext s bytes) → (size ≤ length o′) × (size ≡ length (take size o′))
-line-held s bytes o o′ size e p q =
-    let l : length o′ ≡ 8256 = ap length q ∙ length-sets o 0 (lineNext s bytes) ∙ e in
-    let h : size ≤ length o′ = omega (arith, next-fits s bytes) in
-    (h, sym (length-take-le size o′ h))
+pub line-held : (s : Session) (bytes o o′ : List ℕ) (size : ℕ) → length o ≡ 8256 → size ≡ length (lineNext s bytes) → o′ ≡ sets o 0 (lineNext s bytes)
+    → (size ≤ length o′) × (size ≡ length (take size o′))
+line-held s bytes o o′ size = answers.line-held (lineNext s bytes) o o′ size (next-fits s bytes)

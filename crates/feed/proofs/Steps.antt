@@ -15,15 +15,16 @@ use Rattle.session.specs.declared.Packed.{Packed}
 use Rattle.session.specs.Packing.{packOf, packOut}
 use Rattle.answers.specs.declared.Cause.{Cause}
 use Rattle.answers.specs.declared.Hand.the-variants.{Sample}
-use Rattle.feed.specs.declared.Room.the-variants.{Of, Not}
+use Rattle.answers.specs.declared.Room.the-variants.{Of, Not}
 use Rattle.answers.specs.declared.Answer.{Answer}
 use Rattle.answers.specs.declared.Answer.the-variants.{Handed, Bad}
 use Rattle.feed.specs.declared.Answered.{Answered}
 use Rattle.answers.specs.Lines.{untouched, fresh}
-use Rattle.feed.specs.Alone.{Reply, reply, inWork, roomAt, sampleLent, sampleIn, sampleFed, lentFed, roomIn, roomFed}
+use Rattle.answers.specs.Rooms.{roomAt}
+use Rattle.feed.specs.Alone.{Reply, reply, inWork, sampleLent, sampleIn, sampleFed, lentFed, roomIn, roomFed}
 use Rattle.feed.specs.Calls.{Step, step, badFed, packed, packIn, packFed}
 use Rattle.answers.proofs.Watch.{untouched-size}
-use Rattle.feed.proofs.Rooms.{work-after}
+use Rattle.answers.proofs.Rooms.{work-after}
 use Rattle.feed.proofs.Kept.{sample-kept, pack-kept, lent-in}
 
 abbrev pub Gives : Reply → Answer → List ℕ → Type 0

@@ -1,12 +1,12 @@
 -- The calls that touch no session: tags 20h to 28h (FEED's table).
-use Prim.Native.Nat.{ℕ, _+_}
+use Prim.Native.Nat.{ℕ}
 use mathlib.Core.List.{List}
 use mathlib.Core.Bool.{cond}
 use lib.ListN.{length, drop}
-use lib.Dec.{leb, ltb, eqb}
+use lib.Dec.{ltb, eqb}
 use Rattle.laws.specs.declared.Done.{Done}
 use Rattle.laws.specs.Calls.{over}
-use Rattle.records.specs.Records.{byteAt, pairAt}
+use Rattle.records.specs.Records.{byteAt}
 use Rattle.sampling.specs.Samples.{sampleDone, sampleOut}
 use Rattle.container.specs.Reading.{reading}
 use Rattle.container.specs.Writing as container
@@ -18,13 +18,14 @@ use Rattle.mending.specs.Mending.{mendDone, mendOut}
 use Rattle.flat.specs.Unflat.{unflat}
 use Rattle.report.specs.Report.{reported}
 use Rattle.answers.specs.declared.Cause.{Cause}
-use Rattle.answers.specs.declared.Cause.the-variants.{UnknownTag, TooShort, TooLong, RoomAbove, IdPresent, VideoValues, UnusedPlace}
+use Rattle.answers.specs.declared.Cause.the-variants.{UnknownTag, TooShort, TooLong, IdPresent, VideoValues, UnusedPlace}
 use Rattle.answers.specs.declared.Hand.the-variants.{Sample, Rewrite, Wrap, Unwrap, Write, Stream, Unstream, Mend}
-use Rattle.feed.specs.declared.Room.{Room}
-use Rattle.feed.specs.declared.Room.the-variants.{Of, Not}
+use Rattle.answers.specs.declared.Room.{Room}
+use Rattle.answers.specs.declared.Room.the-variants.{Of, Not}
 use Rattle.answers.specs.declared.Answer.{Answer}
 use Rattle.answers.specs.declared.Answer.the-variants.{Handed, Reported, Bad}
 use Rattle.answers.specs.Lines.{untouched, fresh}
+use Rattle.answers.specs.Rooms.{roomAt}
 
 -- what a call answers, and the buffer that it was lent as it leaves it
 pub record Reply : Type 0 where
@@ -37,15 +38,6 @@ reply a left = record { answer = a; left = left }
 -- the first bytes of the work buffer were lent
 unfoldable pub inWork : Reply → Reply
 inWork r = reply (r .answer) (over (r .left) fresh)
-
--- a `u16 room` at a place of the payload: "`room` is at most 4,096"
-unfoldable pub roomAt : List ℕ → ℕ → Room
-roomAt p at =
-    cond (leb (at + 2) (length p))
-    (cond (leb (pairAt p at) 4096)
-    (Of (pairAt p at))
-    (Not RoomAbove))
-    (Not TooShort)
 
 -- 20h: "Line sampling by itself"; "format, u16 room, the line's bytes"
 unfoldable pub sampleLent : ℕ → List ℕ → List ℕ → Reply

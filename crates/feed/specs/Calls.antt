@@ -17,15 +17,15 @@ use Rattle.session.specs.Packing.{packOf, packOut}
 use Rattle.answers.specs.declared.Cause.{Cause}
 use Rattle.answers.specs.declared.Cause.the-variants.{UnknownTag, TooShort, TooLong}
 use Rattle.answers.specs.declared.Hand.the-variants.{Pack}
-use Rattle.feed.specs.declared.Room.{Room}
-use Rattle.feed.specs.declared.Room.the-variants.{Of, Not}
+use Rattle.answers.specs.declared.Room.{Room}
+use Rattle.answers.specs.declared.Room.the-variants.{Of, Not}
 use Rattle.feed.specs.declared.Brought.{Brought}
 use Rattle.feed.specs.declared.Brought.the-variants as brought
 use Rattle.answers.specs.declared.Answer.{Answer}
 use Rattle.answers.specs.declared.Answer.the-variants.{Setup, Line, Sound, Instant, VideoRestart, AudioRestart, Handed, Bad}
 use Rattle.feed.specs.declared.Answered.{Answered}
 use Rattle.answers.specs.Lines.{untouched, fresh}
-use Rattle.feed.specs.Alone.{roomAt}
+use Rattle.answers.specs.Rooms.{roomAt}
 use Rattle.feed.specs.Values.{instantIn}
 
 -- what a record does: its answer with the session that later calls use, and the work buffer as it leaves it

@@ -1,36 +1,20 @@
 // The calls that touch no session: tags 20h to 28h. A call with a room is lent the first bytes of the work buffer.
 ghost use mathlib.Core.Path.{_≡_};
-ghost use Prim.Native.Nat.{_≤_};
 ghost use lib.ListN.{length};
 ghost use Rattle.answers.specs.Lines.{fresh};
-ghost use Rattle.feed.specs.Alone.{roomAt, sampleFed, readFed, rewriteDone, rewriteOut, flatCause, writeLent, carriedFed, lentFed, roomFed, aloneFed};
-use crate::Room;
+ghost use Rattle.feed.specs.Alone.{sampleFed, readFed, rewriteDone, rewriteOut, flatCause, writeLent, carriedFed, lentFed, roomFed, aloneFed};
 use answers::Answer;
 use answers::Cause;
 use answers::Hand;
+use answers::Room;
 use laws::Done;
-
-// The room at a place of the payload.
-pub(crate) fn room_at(payload: &[u8], at: usize) -> Room
-    requires { ⌜ at ≤ 1 ⌝ }
-    ensures { λ r. ⌜ r ≡ roomAt (now (payload .entry)) at ⌝ }
-{
-    if payload.len() < at + 2 {
-        return Room::Not(Cause::TooShort);
-    }
-    let room = records::pair_at(payload, at);
-    if room <= 4096 {
-        return Room::Of(room);
-    }
-    Room::Not(Cause::RoomAbove)
-}
 
 // Line sampling by itself.
 fn sample(payload: &[u8], work: &mut [u8]) -> Answer
     requires { ⌜ now work ≡ fresh ⌝ }
     ensures { λ r. ⌜ (r ≡ sampleFed (now (payload .entry)) .answer) × (now (work .exit) ≡ sampleFed (now (payload .entry)) .left) ⌝ }
 {
-    let asked = room_at(payload, 1);
+    let asked = answers::asks::room_at(payload, 1);
     match asked {
         Room::Not(cause) => Answer::Bad(cause),
         Room::Of(room) => {
@@ -140,7 +124,7 @@ fn in_room(tag: u8, payload: &[u8], work: &mut [u8]) -> Answer
     requires { ⌜ now work ≡ fresh ⌝ }
     ensures { λ r. ⌜ (r ≡ roomFed tag (now (payload .entry)) .answer) × (now (work .exit) ≡ roomFed tag (now (payload .entry)) .left) ⌝ }
 {
-    let asked = room_at(payload, 0);
+    let asked = answers::asks::room_at(payload, 0);
     match asked {
         Room::Not(cause) => Answer::Bad(cause),
         Room::Of(room) => lend(tag, &payload[2..], &mut work[..room]),

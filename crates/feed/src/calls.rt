@@ -5,12 +5,11 @@ ghost use Rattle.session.specs.Session.{setupOf};
 ghost use Rattle.feed.specs.Calls.{badFed, begun, setupFed, ruledFed, lineFed, soundFed, packFed, restartFed, instantFed, sessionFed};
 use crate::Answered;
 use crate::Brought;
-use crate::Room;
-use crate::alone::room_at;
 use crate::values::instant_in;
 use answers::Answer;
 use answers::Cause;
 use answers::Hand;
+use answers::Room;
 use laws::Done;
 use session::Session;
 
@@ -87,7 +86,7 @@ fn pack(s: Session, payload: &[u8], work: &mut [u8]) -> Answered
     requires { ⌜ now work ≡ fresh ⌝ }
     ensures { λ r. ⌜ (r ≡ packFed s (now (payload .entry)) .answered) × (now (work .exit) ≡ packFed s (now (payload .entry)) .left) ⌝ }
 {
-    let asked = room_at(payload, 0);
+    let asked = answers::asks::room_at(payload, 0);
     match asked {
         Room::Not(cause) => bad(s, cause),
         Room::Of(room) => {

@@ -13,12 +13,6 @@ mod alone;
 mod calls;
 mod values;
 
-// A room that a record asks for, or why it has none.
-enum Room {
-    Of(usize),
-    Not(Cause),
-}
-
 // The instant that a record brings, or why it brings none.
 enum Brought {
     Of(Instant),
@@ -74,18 +68,11 @@ fn answer_front(s: Session, bytes: &[u8], work: &mut [u8]) -> Answered
     }
 }
 
-// The work buffer, filled with A5h.
-fn fresh_work() -> [u8; 4096]
-    ensures { λ r. ⌜ r ≡ fresh ⌝ }
-{
-    [0xa5; 4096]
-}
-
 // The record at the front of what is left of the feed, answered and said. The line's bytes stand at the front of out, as far as out has places for them.
 pub fn next(s: Session, bytes: &[u8], out: &mut [u8]) -> Fed
     ensures { λ r. ⌜ (r ≡ fedOf (front s (now (bytes .entry)))) × (now (out .exit) ≡ sets (now (out .entry)) 0 (lineNext s (now (bytes .entry)))) ⌝ }
 {
-    let mut work = fresh_work();
+    let mut work = answers::asks::fresh_work();
     let a = answer_front(s, bytes, &mut work);
     let answer = a.answer;
     let next = a.session;

@@ -4,7 +4,9 @@ use Prim.Native.Nat.{ℕ}
 use mathlib.Core.List.{List}
 use denote.Ref.{now}
 use Rattle.laws.proofs.Once.{OneResult, OneLeft, OneOutcome}
-use Rattle.answers.proofs.fault.put_fault.Reads as answers-fault-put-fault
+use Rattle.answers.proofs.asks.room_at.Reads as answers-asks-room-at
+use Rattle.answers.proofs.asks.fresh_work.Reads as answers-asks-fresh-work
+use Rattle.answers.proofs.fault.say_fault.Reads as answers-fault-say-fault
 use Rattle.answers.proofs.say.say.Reads as answers-say-say
 use Rattle.bench_audio.proofs.bench_audio.Reads as bench-audio-bench-audio
 use Rattle.bench_audio.proofs.instant_of.Reads as bench-audio-instant-of
@@ -45,6 +47,7 @@ use Rattle.host.proofs.lipsync_read_transport.Reads as host-lipsync-read-transp
 use Rattle.host.proofs.lipsync_mend.Reads as host-lipsync-mend
 use Rattle.host.proofs.lipsync_sample_line.Reads as host-lipsync-sample-line
 use Rattle.host.proofs.lipsync_is_monitored.Reads as host-lipsync-is-monitored
+use Rattle.intake.proofs.stops.Reads as intake-stops
 use Rattle.laws.proofs.copy_at.Reads as laws-copy-at
 use Rattle.laws.proofs.flag.Reads as laws-flag
 use Rattle.mending.proofs.mend.Reads as mending-mend
@@ -65,6 +68,12 @@ use Rattle.rates.proofs.count_occurs.Reads as rates-count-occurs
 use Rattle.rates.proofs.two_fields.Reads as rates-two-fields
 use Rattle.rates.proofs.pairs.Reads as rates-pairs
 use Rattle.rates.proofs.mix_listed.Reads as rates-mix-listed
+use Rattle.receive_feed.proofs.open.Reads as receive-feed-open
+use Rattle.receive_feed.proofs.next.Reads as receive-feed-next
+use Rattle.receiving.proofs.fresh.Reads as receiving-fresh
+use Rattle.receiving.proofs.arrive.Reads as receiving-arrive
+use Rattle.receiving.proofs.next.Reads as receiving-next
+use Rattle.receiving.proofs.give_up.Reads as receiving-give-up
 use Rattle.records.proofs.pair_at.Reads as records-pair-at
 use Rattle.records.proofs.record_at.Reads as records-record-at
 use Rattle.report.proofs.report.Reads as report-report
@@ -102,11 +111,14 @@ use Rattle.fingerprint.proofs.Unique as fingerprint-theorems
 use Rattle.flat.proofs.Unique as flat-theorems
 use Rattle.floats.proofs.Unique as floats-theorems
 use Rattle.host.proofs.Unique as host-theorems
+use Rattle.intake.proofs.Unique as intake-theorems
 use Rattle.laws.proofs.Unique as laws-theorems
 use Rattle.mending.proofs.Unique as mending-theorems
 use Rattle.packet.proofs.Unique as packet-theorems
 use Rattle.picture.proofs.Unique as picture-theorems
 use Rattle.rates.proofs.Unique as rates-theorems
+use Rattle.receive_feed.proofs.Unique as receive-feed-theorems
+use Rattle.receiving.proofs.Unique as receiving-theorems
 use Rattle.records.proofs.Unique as records-theorems
 use Rattle.report.proofs.Unique as report-theorems
 use Rattle.sampling.proofs.Unique as sampling-theorems
@@ -115,8 +127,14 @@ use Rattle.sound.proofs.Unique as sound-theorems
 use Rattle.text.proofs.Unique as text-theorems
 use Rattle.transport.proofs.Unique as transport-theorems
 
-pub answers-fault-put-fault-unique : OneOutcome answers-fault-put-fault.Post (λ κs s. now (s .1 .1 .1 .0))
-answers-fault-put-fault-unique = answers-theorems.put-fault-unique
+pub answers-asks-room-at-unique : OneResult answers-asks-room-at.Post
+answers-asks-room-at-unique = answers-theorems.room-at-unique
+
+pub answers-asks-fresh-work-unique : OneResult answers-asks-fresh-work.Post
+answers-asks-fresh-work-unique = answers-theorems.fresh-work-unique
+
+pub answers-fault-say-fault-unique : OneOutcome answers-fault-say-fault.Post (λ κs s. now (s .1 .1 .1 .1 .0))
+answers-fault-say-fault-unique = answers-theorems.say-fault-unique
 
 pub answers-say-say-unique : OneOutcome answers-say-say.Post (λ κs s. now (s .1 .1 .0))
 answers-say-say-unique = answers-theorems.say-unique
@@ -238,6 +256,9 @@ host-lipsync-sample-line-unique = host-theorems.lipsync-sample-line-unique
 pub host-lipsync-is-monitored-unique : OneResult host-lipsync-is-monitored.Post
 host-lipsync-is-monitored-unique = host-theorems.lipsync-is-monitored-unique
 
+pub intake-stops-unique : OneResult intake-stops.Post
+intake-stops-unique = intake-theorems.stops-unique
+
 pub laws-copy-at-unique : OneLeft laws-copy-at.Post (λ κs s. now (s .1 .0))
 laws-copy-at-unique = laws-theorems.copy-at-unique
 
@@ -297,6 +318,24 @@ rates-pairs-unique = rates-theorems.pairs-unique
 
 pub rates-mix-listed-unique : OneResult rates-mix-listed.Post
 rates-mix-listed-unique = rates-theorems.mix-listed-unique
+
+pub receive-feed-open-unique : OneResult receive-feed-open.Post
+receive-feed-open-unique = receive-feed-theorems.open-unique
+
+pub receive-feed-next-unique : OneOutcome receive-feed-next.Post (λ κs s. now (s .1 .1 .0))
+receive-feed-next-unique = receive-feed-theorems.next-unique
+
+pub receiving-fresh-unique : OneResult receiving-fresh.Post
+receiving-fresh-unique = receiving-theorems.fresh-unique
+
+pub receiving-arrive-unique : OneResult receiving-arrive.Post
+receiving-arrive-unique = receiving-theorems.arrive-unique
+
+pub receiving-next-unique : OneOutcome receiving-next.Post (λ κs s. now (s .1 .0))
+receiving-next-unique = receiving-theorems.next-unique
+
+pub receiving-give-up-unique : OneResult receiving-give-up.Post
+receiving-give-up-unique = receiving-theorems.give-up-unique
 
 pub records-pair-at-unique : OneResult records-pair-at.Post
 records-pair-at-unique = records-theorems.pair-at-unique

@@ -1,9 +1,13 @@
 // make/mod.rs: the kinds of random feed.
 
+mod arrivals;
+#[cfg(test)]
+mod arrivals_tests;
 mod broken;
 mod containers;
 mod contents;
 mod counts;
+mod datagrams;
 mod fields;
 mod floats;
 mod instants;
@@ -17,6 +21,7 @@ mod rules;
 mod script;
 mod sessions;
 mod sound;
+mod strays;
 mod streams;
 mod sums;
 
@@ -32,7 +37,7 @@ const fn kind(name: &'static str, make: fn(Random, u64) -> Vec<u8>, says: &'stat
     Kind { name, says, make }
 }
 
-pub const KINDS: [Kind; 19] = [
+pub const KINDS: [Kind; 21] = [
     kind("setup", sessions::setup, "setups listed and not, calls on empty sessions"),
     kind("session", sessions::session, "sessions of every format and rate: all calls, in and out of order"),
     kind("picture", sessions::picture, "sessions of every format and rate: mostly lines and packs"),
@@ -56,6 +61,8 @@ pub const KINDS: [Kind; 19] = [
     kind("broken", broken::broken, "feeds with a malformed record"),
     kind("bytes", containers::bytes, "no feed: the bytes of one container, for `inspect`"),
     kind("recording", recordings::recording, "no feed: the bytes of one recording, for `mend`"),
+    kind("arrivals", arrivals::arrivals, "for `receive`: containers that come early, late, twice, damaged or never"),
+    kind("strays", strays::strays, "for `receive`: records of which one is malformed"),
 ];
 
 pub fn feed(name: &str, seed: u64) -> Option<Vec<u8>> {

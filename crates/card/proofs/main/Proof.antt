@@ -8,10 +8,10 @@ use Rattle.card.proofs.main.Statement.{statement}
 use Rattle.card.proofs.main.Tie as tie
 
 abbrev Inv-loop : tie.InvT-loop
-Inv-loop bytes₀ line₀ session₀ left₀ byte₀ bytes line session left byte = (length bytes ≡ 65538) × ((length line ≡ 8256) × (left ≤ 18446744073709551615))
+Inv-loop bytes₀ line₀ session₀ left₀ byte₀ t8 bytes line session left byte = (length bytes ≡ 65538) × ((length line ≡ 8256) × (left ≤ 18446744073709551615))
 
 abbrev μ-loop : tie.MeasureT-loop
-μ-loop bytes₀ line₀ session₀ left₀ byte₀ bytes line session left byte = left
+μ-loop bytes₀ line₀ session₀ left₀ byte₀ t8 bytes line session left byte = left
 
 record-room-requires : tie.Need-record-room-requires Inv-loop μ-loop
 record-room-requires c κs = search needs
@@ -36,6 +36,9 @@ slice-aggregate-answer-next-2 c = search needs
 
 answer-next-requires : tie.Need-answer-next-requires Inv-loop μ-loop
 answer-next-requires c κs = search needs
+
+slice-aggregate-stops : tie.Need-slice-aggregate-stops Inv-loop μ-loop
+slice-aggregate-stops c = search needs
 
 sub-stops : tie.Need-sub-stops Inv-loop μ-loop
 sub-stops c = search needs
@@ -72,6 +75,7 @@ main-spec =
     slice-aggregate-answer-next
     slice-aggregate-answer-next-2
     answer-next-requires
+    slice-aggregate-stops
     sub-stops
     stops-requires
     returns

@@ -2,7 +2,7 @@
 use mathlib.Core.Path.{refl, sym, _∙_}
 use native.Mathlib.Omega.{arith}
 use Rattle.laws.proofs.Lists.{tail-part}
-use Rattle.feed.proofs.Rooms.{Roomed, roomed}
+use Rattle.answers.proofs.Rooms.{Roomed, roomed}
 use Rattle.feed.proofs.Steps.{gives-as, room-none, lends}
 use borrow.Author.Needs.{needs}
 use Rattle.feed.proofs.alone.in_room.Statement.{statement}

@@ -3,7 +3,7 @@ use mathlib.Core.Path.{sym, _∙_}
 use native.Mathlib.Omega.{arith}
 use Rattle.feed.specs.Calls.{doneOf, packed}
 use Rattle.laws.proofs.Lists.{tail-part}
-use Rattle.feed.proofs.Rooms.{Roomed, roomed}
+use Rattle.answers.proofs.Rooms.{Roomed, roomed}
 use Rattle.feed.proofs.Steps.{does-as, pack-none, packs}
 use borrow.Author.Needs.{needs}
 use Rattle.feed.proofs.calls.pack.Statement.{statement}

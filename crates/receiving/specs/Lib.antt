@@ -1,0 +1,3 @@
+pub mod Slots
+pub mod Numbers
+pub mod Receiver

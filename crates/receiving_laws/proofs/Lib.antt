@@ -1,0 +1,6 @@
+pub mod Told
+pub mod Runs
+pub mod Fates
+pub mod Held
+pub mod Receiving
+pub mod Contracts

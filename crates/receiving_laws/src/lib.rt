@@ -1,0 +1,1 @@
+// Theorems about receivers, in proofs/; there is no code here.
