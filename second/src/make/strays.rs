@@ -33,11 +33,18 @@ const WRONG: [(u8, &[u8]); 17] = [
     (0x33, &[0, 5]),
 ];
 
-/// Another tag, with a payload that would do for one of the four.
+/// Another tag, with a payload that would do for one of the four: as a rule for the nearest, or the one with the same
+/// two lowest bits.
 fn unknown_tag(stream: &mut Stream, tag: u8) {
     let container = stream.whole(0);
-    let payloads: [&[u8]; 5] = [&[], &[0], &[0, 5], &[0x10, 0], &container];
-    let payload = stream.random.pick(&payloads);
+    let payloads: [&[u8]; 4] = [&[9], &container, &[0x10, 0], &[]];
+    let like = match tag {
+        0x2F => 0,
+        0x34 => 3,
+        _ => usize::from(tag % 4),
+    };
+    let any = stream.random.below(4);
+    let payload = payloads[if stream.random.chance(75) { like } else { any }];
     stream.record(tag, payload);
 }
 
