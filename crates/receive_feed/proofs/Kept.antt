@@ -16,7 +16,7 @@ use Rattle.receiving.specs.declared.Receiver.{Receiver}
 use Rattle.receiving.specs.declared.Asked.{Asked}
 use Rattle.receiving.specs.Slots.{containerIn, isHeld}
 use Rattle.receiving.specs.Numbers.{thereNumber, nextNumber}
-use Rattle.receiving.specs.Receiver.{slotAt, arriveOf, nextDone, askedWith, nextOf, nextOut}
+use Rattle.receiving.specs.Receiver.{slotAt, arriveOf, asking, nextDone, askedWith, nextOf, nextOut}
 use Rattle.answers.specs.declared.Cause.the-variants.{UnknownTag, TooLong, CutShort}
 use Rattle.answers.specs.declared.Hand.the-variants.{Next}
 use Rattle.answers.specs.declared.Room.{Room}
@@ -41,7 +41,7 @@ does-as t u a w e p = subst (λ (x : Step). Does x a w) e p
 -- ---- asking for the next
 
 next-kept : (r : Receiver) (lent : List ℕ) → Kept lent (doneOf (nextOf r (length lent)) .written) (nextOut r lent)
-unfolding doneOf nextOf askedWith nextDone nextOut nextNumber
+unfolding doneOf nextOf askedWith nextDone nextOut asking nextNumber
 next-kept r lent = call-kept (thereNumber (isHeld (slotAt r 0))) (containerIn (slotAt r 0)) lent
 
 -- it is lent the first bytes of the work buffer

@@ -16,7 +16,7 @@ use Rattle.receiving.specs.declared.Arrived.{Arrived}
 use Rattle.receiving.specs.declared.Asked.{Asked}
 use Rattle.receiving.specs.Slots.{containerIn, isHeld}
 use Rattle.receiving.specs.Numbers.{placeNumber, arriveNumber, thereNumber, nextNumber}
-use Rattle.receiving.specs.Receiver.{slotAt, distanceOf, arriving, holding, arriveOf, movedOn, nextDone, askedWith, nextOf, nextOut}
+use Rattle.receiving.specs.Receiver.{slotAt, distanceOf, arriving, holding, arriveOf, movedOn, asking, nextDone, askedWith, nextOf, nextOut}
 
 -- a place that is not refused is one of the eight, and free
 pub place-free : (d : ℕ) (held : Bool) → placeNumber d held ≡ 0 → (d < 8) × (held ≡ false)
@@ -70,16 +70,16 @@ abbrev pub Next : Receiver → List ℕ → Asked → List ℕ → Type 0
 Next r out a left = (a ≡ nextOf r (length out)) × (left ≡ nextOut r out)
 
 module _ (r : Receiver) (out : List ℕ) where
-  pub refused-next : (n : ℕ) → n ≡ nextNumber (isHeld (slotAt r 0)) (containerIn (slotAt r 0)) (length out) → (n ≡ 0 → ⊥) → Next r out (asked n 0 r) out
+  pub refused-next : (n : ℕ) → n ≡ asking r (length out) → (n ≡ 0 → ⊥) → Next r out (asked n 0 r) out
   unfolding nextDone nextOf nextOut askedWith doneWith outWith
   refused-next n e f = rw (← e, ne-eqb n 0 f) (refl, refl)
 
-  pub handed-over : nextNumber (isHeld (slotAt r 0)) (containerIn (slotAt r 0)) (length out) ≡ 0
+  pub handed-over : asking r (length out) ≡ 0
       → Next r out (asked 0 (length (containerIn (slotAt r 0))) (movedOn r)) (over (containerIn (slotAt r 0)) out)
   unfolding nextDone nextOf nextOut askedWith doneWith outWith
   handed-over e = rw e (refl, refl)
 
 -- what is handed out has room
-pub has-room : (held : Bool) (bytes : List ℕ) (room : ℕ) → nextNumber held bytes room ≡ 0 → length bytes ≤ room
-unfolding nextNumber
-has-room held bytes room e = told-zero (thereNumber held) bytes room e .1
+pub has-room : (r : Receiver) (room : ℕ) → asking r room ≡ 0 → length (containerIn (slotAt r 0)) ≤ room
+unfolding asking nextNumber
+has-room r room e = told-zero (thereNumber (isHeld (slotAt r 0))) (containerIn (slotAt r 0)) room e .1

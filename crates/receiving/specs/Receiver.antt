@@ -43,8 +43,11 @@ arriveOf r b = record { number = arriving r b; receiver = cond (eqb (arriving r 
 unfoldable pub movedOn : Receiver → Receiver
 movedOn r = record { expected = (r .expected + 1) % 256; held = drop 1 (r .held) ++ emptySlot ∷ [] }
 
+unfoldable pub asking : Receiver → ℕ → ℕ
+asking r room = nextNumber (isHeld (slotAt r 0)) (containerIn (slotAt r 0)) room
+
 unfoldable pub nextDone : Receiver → ℕ → Done
-nextDone r room = doneWith (nextNumber (isHeld (slotAt r 0)) (containerIn (slotAt r 0)) room) (containerIn (slotAt r 0))
+nextDone r room = doneWith (asking r room) (containerIn (slotAt r 0))
 
 -- "hands out the expected one if held, frees its room and moves on by one"; "12, which leaves it held"
 unfoldable pub askedWith : Receiver → Done → Asked
@@ -54,4 +57,4 @@ unfoldable pub nextOf : Receiver → ℕ → Asked
 nextOf r room = askedWith r (nextDone r room)
 
 unfoldable pub nextOut : Receiver → List ℕ → List ℕ
-nextOut r out = outWith (nextNumber (isHeld (slotAt r 0)) (containerIn (slotAt r 0)) (length out)) (containerIn (slotAt r 0)) out
+nextOut r out = outWith (asking r (length out)) (containerIn (slotAt r 0)) out

@@ -14,7 +14,7 @@ use Rattle.receiving.specs.Numbers.{thereNumber, nextNumber}
 use Rattle.receiving_laws.specs.Calls.{Call, arrive, next, give-up, Answer, Event}
 use Rattle.receiving_laws.specs.History.{goneAt, gone, expected, distance, extended, takenAt, taken, isSome, first, handing, asked, paper}
 use Rattle.receiving_laws.specs.Fates.{handedAt, handed, held, givenUpAt, givenUp, InOrder, HandsOut}
-use Rattle.receiving_laws.proofs.Told.{Told, none, more, Once, nothing, one, once}
+use Rattle.receiving_laws.proofs.Told.{Told, none, more, grows, Once, nothing, one, once}
 
 pub at-most-one : {es : List Event} {x : ℕ} {ts : List (List ℕ)} → Once es x ts → length ts ≤ 1
 at-most-one nothing = omega arith
@@ -67,13 +67,9 @@ unfolding handed handedAt givenUp givenUpAt expected gone goneAt
 not-yet none x h = (refl, refl)
 not-yet (more (arrive b) l t) x h = not-yet t x h
 not-yet {e} (more {es} (next out) l t) x h =
-    let w = not-yet t x (earlier (eqb (paper e es (next out) .number) 0) h) in
+    let w = not-yet t x (omega (arith, h, grows (eqb (paper e es (next out) .number) 0) (gone es))) in
     (go (eqb (paper e es (next out) .number) 0) h (w .0), w .1)
   where
-    earlier : (y : Bool) → e + cond y (suc (gone es)) (gone es) ≤ x → e + gone es ≤ x
-    earlier true p = omega (arith, p)
-    earlier false p = p
-
     go : (y : Bool) → e + cond y (suc (gone es)) (gone es) ≤ x → handed e es x ≡ []
         → cond (y && eqb (e + gone es) x) (take (paper e es (next out) .written) (paper e es (next out) .out) ∷ handed e es x) (handed e es x) ≡ []
     go true p r = rw (ne-eqb (e + gone es) x (λ q. omega (arith, p, q))) r

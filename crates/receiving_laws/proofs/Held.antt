@@ -15,7 +15,7 @@ use Rattle.receiving.specs.Numbers.{placeNumber, arriveNumber}
 use Rattle.receiving_laws.specs.Calls.{Call, arrive, next, give-up, Answer, Event, Lent}
 use Rattle.receiving_laws.specs.History.{goneAt, gone, expected, counterOf, distance, extended, takenAt, taken, isSome, first, paper}
 use Rattle.receiving_laws.specs.Fates.{takenFromAt, takenFrom, allHeld, anyWith}
-use Rattle.receiving_laws.proofs.Told.{Told, none, more, TakenIn, taken-in, extended-is, Once, nothing, one, once}
+use Rattle.receiving_laws.proofs.Told.{Told, none, more, grows, TakenIn, taken-in, extended-is, Once, nothing, one, once}
 use Rattle.receiving_laws.proofs.Fates.{at-most-one}
 
 -- ---- At most eight
@@ -68,11 +68,7 @@ none-beyond : {e : ℕ} {es : List Event} → Told e es → (x : ℕ) → expect
 unfolding takenFrom takenFromAt expected gone goneAt
 none-beyond none x h = refl
 none-beyond {e} (more {es} (arrive b) l t) x h = beyond-eight e es b x h (none-beyond t x h) (eqb (paper e es (arrive b) .number) 0 && leb x (extended e es b)) refl
-none-beyond {e} (more {es} (next out) l t) x h = none-beyond t x (go (eqb (paper e es (next out) .number) 0) h)
-  where
-    go : (y : Bool) → e + cond y (suc (gone es)) (gone es) + 8 ≤ x → e + gone es + 8 ≤ x
-    go true p = omega (arith, p)
-    go false p = p
+none-beyond {e} (more {es} (next out) l t) x h = none-beyond t x (omega (arith, h, grows (eqb (paper e es (next out) .number) 0) (gone es)))
 none-beyond (more give-up l t) x h = none-beyond t x (omega (arith, h))
 
 -- one for each counter at most
@@ -140,11 +136,7 @@ unfolding takenFrom takenFromAt taken takenAt expected gone goneAt Lent
 same-held none n x h k l = none-held x
 same-held {e} (more {es} (arrive b) small t) n x h k l =
     same-taken e es b n x small h k l (same-held t n x h k l) (eqb (paper e es (arrive b) .number) 0) refl
-same-held {e} (more {es} (next out) s t) n x h k l = same-held t n x (go (eqb (paper e es (next out) .number) 0) h) k l
-  where
-    go : (y : Bool) → e + cond y (suc (gone es)) (gone es) ≤ n → e + gone es ≤ n
-    go true p = omega (arith, p)
-    go false p = p
+same-held {e} (more {es} (next out) s t) n x h k l = same-held t n x (omega (arith, h, grows (eqb (paper e es (next out) .number) 0) (gone es))) k l
 same-held (more give-up s t) n x h k l = same-held t n x (omega (arith, h)) k l
 
 near-number : (d : ℕ) (held : Bool) → d < 8 → arriveNumber 0 d held ≡ cond held 72 0

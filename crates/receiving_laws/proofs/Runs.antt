@@ -18,7 +18,7 @@ use Rattle.receiving.specs.declared.Slot.{Slot}
 use Rattle.receiving.specs.declared.Receiver.{Receiver}
 use Rattle.receiving.specs.Slots.{emptySlot, noSlot, slotOf, containerIn, isHeld}
 use Rattle.receiving.specs.Numbers.{ahead, thereNumber, nextNumber}
-use Rattle.receiving.specs.Receiver.{freshOf, slotAt, distanceOf, arriving, holding, arriveOf, movedOn, nextDone, askedWith, nextOf, nextOut}
+use Rattle.receiving.specs.Receiver.{freshOf, slotAt, distanceOf, arriving, holding, arriveOf, movedOn, asking, nextDone, askedWith, nextOf, nextOut}
 use Rattle.receiving_laws.specs.Calls.{Call, arrive, next, give-up, Answer, saying, Event, event, answerOf, afterCall, Lent, Run, none, then}
 use Rattle.receiving_laws.specs.History.{goneAt, gone, expected, counterOf, distance, extended, takenAt, taken, isSome, first, handing, asked, paper}
 use Rattle.receiving_laws.proofs.Told.{Told, more, TakenIn, taken-in, Once, nothing, one, once}
@@ -194,7 +194,7 @@ right-arrival e es r h b l = record {
 
 module _ (e : ℕ) (es : List Event) (r : Receiver) (h : Holds e es r) (out : List ℕ) where
   next-same : answerOf r (next out) ≡ paper e es (next out)
-  unfolding answerOf nextOf nextOut nextDone askedWith doneWith handing paper
+  unfolding answerOf nextOf nextOut nextDone askedWith asking doneWith handing paper
   next-same = same-next (slotAt r 0) es (expected e es) out (subst (λ (n : ℕ). Fits (slotAt r 0) (taken e es n)) (omega arith) (h .fits 0)) (once (h .told) (expected e es))
 
   next-number : nextDone r (length out) .number ≡ paper e es (next out) .number

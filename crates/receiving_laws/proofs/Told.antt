@@ -1,5 +1,5 @@
 -- Histories as 02's A12 tells them: what is taken in under a counter is one container or none.
-use Prim.Native.Nat.{ℕ, suc, _+_, _-_, _%_, _≤_, _<_}
+use Prim.Native.Nat.{ℕ, suc, _%_, _≤_, _<_}
 use mathlib.Core.Path.{_≡_, refl, sym, ap, subst, _∙_}
 use mathlib.Core.Bool.{Bool, true, false, cond, _&&_, true≢false}
 use mathlib.Core.List.{List, [], _∷_}
@@ -13,13 +13,18 @@ use Rattle.container_laws.proofs.Container.{accepted-counter}
 use Rattle.receiving.specs.Numbers.{ahead}
 use Rattle.receiving.proofs.Calls.{arrive-free}
 use Rattle.receiving_laws.specs.Calls.{Call, arrive, next, give-up, Event, event, Lent}
-use Rattle.receiving_laws.specs.History.{goneAt, gone, expected, counterOf, distance, extended, takenAt, taken, isSome, paper}
+use Rattle.receiving_laws.specs.History.{counterOf, distance, extended, takenAt, taken, isSome, paper}
 use Rattle.receiving_laws.specs.Fates.{ArrivedIn, here, before}
 
 -- each answer is the paper's, and what arrived was lent as bytes
 pub data Told (e : ℕ) : List Event → Type 0 where
   none : Told e []
   more : {es : List Event} (c : Call) → Lent c → Told e es → Told e (event c (paper e es c) ∷ es)
+
+-- no call moves back
+pub grows : (moved : Bool) (n : ℕ) → n ≤ cond moved (suc n) n
+grows true n = omega arith
+grows false n = omega arith
 
 pub is-empty : (ts : List (List ℕ)) → isSome ts ≡ false → ts ≡ []
 unfolding isSome
@@ -74,25 +79,3 @@ once none x = nothing
 once {e} (more {es} (arrive b) small t) x = once-arrived e es b x small (once t x) (eqb (paper e es (arrive b) .number) 0 && eqb (extended e es b) x) refl
 once (more (next out) l t) x = later _ (once t x)
 once (more give-up l t) x = later _ (once t x)
-
--- nothing is further ahead than the eighth place
-near-by : (e : ℕ) (es : List Event) (b : List ℕ) (x : ℕ) → expected e es + 8 ≤ x → TakenIn e es b → extended e es b ≡ x → ⊥
-unfolding extended
-near-by e es b x h i at = omega (arith, at, i .near, h)
-
-pub beyond : {e : ℕ} {es : List Event} → Told e es → (x : ℕ) → expected e es + 8 ≤ x → taken e es x ≡ []
-unfolding taken takenAt expected gone goneAt
-beyond none x h = refl
-beyond {e} (more {es} (arrive b) small t) x h = go (eqb (paper e es (arrive b) .number) 0 && eqb (extended e es b) x) refl (beyond t x h)
-  where
-    go : (y : Bool) → (eqb (paper e es (arrive b) .number) 0 && eqb (extended e es b) x) ≡ y → taken e es x ≡ [] → cond y (b ∷ taken e es x) (taken e es x) ≡ []
-    go true p r =
-        let q = both (eqb (paper e es (arrive b) .number) 0) (eqb (extended e es b) x) p in
-        absurd (near-by e es b x h (taken-in e es b (eqb-true (paper e es (arrive b) .number) 0 (q .0))) (eqb-true (extended e es b) x (q .1)))
-    go false p r = r
-beyond {e} (more {es} (next out) l t) x h = beyond t x (go (eqb (paper e es (next out) .number) 0) h)
-  where
-    go : (y : Bool) → e + cond y (suc (gone es)) (gone es) + 8 ≤ x → e + gone es + 8 ≤ x
-    go true p = omega (arith, p)
-    go false p = p
-beyond {e} (more {es} give-up l t) x h = beyond t x (omega (arith, h))
