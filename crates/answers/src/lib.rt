@@ -1,4 +1,6 @@
 // What the records of a feed are answered, by value, and what is said of it: the line printed for an answer, and why a record is bad (FEED).
+#![tactic(auto)]
+
 use laws::Done;
 use picture::Told;
 

@@ -1,4 +1,6 @@
 // What bench/audio.sh measures: one fingerprint that hears the same block, or the same instants in floating point, again and again, with its bytes taken in between.
+#![tactic(auto)]
+
 ghost use Rattle.std.specs.Prelude.{◌≡◌, ◌*◌, ◌≤◌, ◌<◌, length};
 ghost use Rattle.bench_audio.specs.Instants.{instant_of, instant_in, instants_in, all_in, float_sum_after};
 ghost use Rattle.bench_audio.specs.Turns.{byte_in, bytes_in, four_or_five, taken_in, next_turn, sum_after};

@@ -1,4 +1,6 @@
 // What bench/session.sh measures: frames of a format through the session's calls, with blocks or with instants in floating point, and a sum over their containers.
+#![tactic(auto)]
+
 ghost use Rattle.std.specs.Prelude.{◌≡◌, ◌<◌, ◌≤◌, length};
 ghost use Rattle.sampling.specs.Formats.{row_of};
 ghost use Rattle.session.specs.Session.{setup_of};

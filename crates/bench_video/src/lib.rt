@@ -1,4 +1,6 @@
 // The call Line as bench/video.sh measures it.
+#![tactic(auto)]
+
 ghost use Rattle.std.specs.Prelude.{◌≡◌, ◌<◌, length};
 ghost use Rattle.bench_video.specs.Bench.{value_of, step_of, after_lines};
 

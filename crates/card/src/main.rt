@@ -1,4 +1,6 @@
 // Reads a feed from standard input, makes its calls one after the other, and prints one line for each (FEED); on standard error it says why a record is bad.
+#![tactic(auto)]
+
 ghost use Rattle.std.specs.Prelude.{◌≡◌, length};
 
 use answers::Answer;

@@ -1,4 +1,6 @@
 // A container: what it says, read from its bytes and written to them (01, The container; 000, 6).
+#![tactic(auto)]
+
 ghost use Rattle.std.specs.Prelude.{◌≡◌, ◌%◌, ◌≤◌, length, take};
 ghost use Rattle.laws.specs.Sums.{sum};
 ghost use Rattle.container.specs.Contents.{blank_print, empty_contents, same_count};

@@ -1,1 +1,3 @@
 // Theorems about containers, in proofs/; there is no code here.
+#![tactic(auto)]
+

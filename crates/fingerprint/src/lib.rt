@@ -1,5 +1,7 @@
 // One audio fingerprint by value: what it has heard, the bits that it holds, and the taking of them (01, Audio; 000, 5.3.3 to 5.3.6). The mixing rule is its
 // session's, and is given with the sound.
+#![tactic(auto)]
+
 ghost use Rattle.std.specs.Prelude.{◌≡◌, ◌+◌, ◌-◌, ◌*◌, ◌%◌, ◌≤◌, ◌<◌, ltb, length};
 ghost use Rattle.sound.specs.Mix.{instant_bytes};
 ghost use Rattle.floats.specs.Instants.{float_value};

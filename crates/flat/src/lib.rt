@@ -1,5 +1,7 @@
 // The contents of a container in 283 bytes and back: counter; rate code; ID present (0 or 1); the 20 ID bytes; number of video values (0, 1 or 2); the two
 // values; number of audio fingerprints; then 32 times ID, mix type, number of bytes, five bytes.
+#![tactic(auto)]
+
 ghost use Rattle.std.specs.Prelude.{◌≡◌, cond, ◌+◌, ◌≤◌, length};
 ghost use Rattle.std.proofs.lemmas.List.Edits.{sets};
 ghost use Rattle.flat.specs.Flat.{flat_video, flat_print, flat_prints, flat};

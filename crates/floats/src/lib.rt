@@ -1,4 +1,6 @@
 // A sound instant in floating point, and the samples that its values are (02, A3).
+#![tactic(auto)]
+
 ghost use Rattle.std.specs.Prelude.{◌≡◌, ◌^◌, ◌<◌, true, false, T, pos};
 ghost use Rattle.std.specs.Int.Signed.{mag};
 ghost use Rattle.std.specs.Float.Ieee as Ieee;

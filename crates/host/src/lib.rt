@@ -1,4 +1,6 @@
 // What the card's host, written in C, calls; include/lipsync.h has the declarations.
+#![tactic(auto)]
+
 ghost use Rattle.std.specs.Prelude.{◌≡◌, length};
 ghost use Rattle.packet.specs.Writing.{write_done, write_out};
 ghost use Rattle.packet.specs.Reading as packet;

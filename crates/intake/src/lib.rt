@@ -1,5 +1,7 @@
 // For the programs that read records: records read as they come (FEED: "read as they come"), and what is said, on standard error, of the one
 // at which a program stops.
+#![tactic(auto)]
+
 ghost use Rattle.std.specs.Prelude.{◌≡◌, ◌≤◌};
 ghost use Rattle.intake.specs.Intake.{Took, is_last};
 

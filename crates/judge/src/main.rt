@@ -1,4 +1,6 @@
 // Reads a file of packets, standard input or the one that its argument names, and reports what is wrong with them (FEED; 02, A13); of a file that cannot be read it says why on standard error.
+#![tactic(auto)]
+
 ghost use Rattle.std.specs.Prelude.{◌≡◌, ◌≤◌, length};
 ghost use Rattle.judging.specs.Report.{Within};
 

@@ -1,4 +1,6 @@
 // A judge of other makers' feeds: packet after packet it says what is wrong, by what it knows of those before (02, A13).
+#![tactic(auto)]
+
 ghost use Rattle.std.specs.Prelude.{◌≡◌};
 ghost use Rattle.judging.specs.Packets.{carried};
 ghost use Rattle.judging.specs.Judge.{nothing_known, counter_wrong, rate_wrong, count_wrong, places_before, fit_of, last_count, judged_with, judged_of};

@@ -1,4 +1,6 @@
 // What several crates share: a call's answer, what is said of video, the copying of bytes, a flag as a number.
+#![tactic(auto)]
+
 ghost use Rattle.std.specs.Prelude.{◌≡◌, cond, ◌≤◌};
 ghost use Rattle.std.proofs.lemmas.List.Edits.{sets};
 

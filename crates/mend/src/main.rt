@@ -1,4 +1,6 @@
 // Reads a recording from standard input and reports what is kept of it and what is dropped (02, A8).
+#![tactic(auto)]
+
 ghost use Rattle.std.specs.Prelude.{◌≡◌, length};
 
 // Room for the longest recording, and a byte more by which a longer one is known.

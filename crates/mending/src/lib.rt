@@ -1,4 +1,6 @@
 // Mending recordings that were cut or overwritten: at each place a whole field whose container is accepted is kept, or a byte dropped (02, A8).
+#![tactic(auto)]
+
 ghost use Rattle.std.specs.Prelude.{◌≡◌, true, false, ◌+◌, ◌≤◌, ◌<◌, length, drop, leb};
 ghost use Rattle.std.proofs.lemmas.List.Edits.{sets};
 ghost use Rattle.mending.specs.Fields.{field_size, acceptable};

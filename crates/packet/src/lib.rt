@@ -1,4 +1,6 @@
 // Ancillary packets: a container's bytes in words of ten bits (01, The packet; 001, 5.1; ST 291-1, type 2).
+#![tactic(auto)]
+
 ghost use Rattle.std.specs.Prelude.{◌≡◌, length};
 ghost use Rattle.packet.specs.Writing.{write_done, write_out};
 ghost use Rattle.packet.specs.Reading.{read_done, read_out};

@@ -1,1 +1,3 @@
 // Theorems about packets, in proofs/; there is no code here.
+#![tactic(auto)]
+

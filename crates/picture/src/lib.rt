@@ -1,4 +1,6 @@
 // The fields of a picture, their comparison, and the call Line (01, "Video"; 000, 5.2.3).
+#![tactic(auto)]
+
 mod compare;
 mod order;
 

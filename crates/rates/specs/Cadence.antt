@@ -1,5 +1,5 @@
 -- The audio bytes of each frame (000, Table 13, in the words of 01's table), and what holds of every cadence.
-use Rattle.std.specs.Prelude.{ℕ, zero, suc, ◌+◌, ◌-◌, ◌*◌, ◌≡◌, refl, Bool, true, false, cond, ◌||◌, List, [], ◌∷◌, ◌++◌, map, ltb, eqb, length, get_or, replicate}
+use Rattle.std.specs.Prelude.{ℕ, zero, suc, ◌+◌, ◌-◌, ◌*◌, ◌≡◌, refl, Bool, true, cond, List, [], ◌∷◌, ◌++◌, map, ltb, eqb, length, get_or, replicate}
 use Rattle.laws.specs.Lists.{is_one_of}
 use Rattle.laws.specs.Sums.{sum}
 use Rattle.rates.specs.Rates.{intervals}

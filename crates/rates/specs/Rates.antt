@@ -1,5 +1,5 @@
 -- Rate codes (01, Audio, its table; ST 352): which are listed, the interval D, and which format takes which rate.
-use Rattle.std.specs.Prelude.{ℕ, Bool, true, false, cond, ◌&&◌, List, [], ◌∷◌, leb, ltb, eqb, get_or}
+use Rattle.std.specs.Prelude.{ℕ, Bool, cond, ◌&&◌, List, [], ◌∷◌, leb, ltb, eqb, get_or}
 
 -- codes 2 to 11
 unfoldable pub rate_listed : ℕ → Bool

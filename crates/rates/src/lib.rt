@@ -1,4 +1,6 @@
 // The codes that 01 lists: picture rates (ST 352) with the interval D and the cadence of Table 13, which format takes which rate, and mix types.
+#![tactic(auto)]
+
 ghost use Rattle.std.specs.Prelude.{◌≡◌, length, get_or};
 ghost use Rattle.rates.specs.Rates.{rate_listed, interval_of, two_fields, pairs_with};
 ghost use Rattle.rates.specs.Cadence.{cadence, count_occurs, row_held, cycle_bytes, place_after};

@@ -1,4 +1,6 @@
 // Reads records from standard input, makes the calls in them on one receiver, and prints one line for each (FEED; 02, A12); on standard error it says why a record is bad.
+#![tactic(auto)]
+
 ghost use Rattle.std.specs.Prelude.{◌≡◌, length};
 
 use answers::Answer;

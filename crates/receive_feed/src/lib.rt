@@ -1,4 +1,6 @@
 // The records that the program `receive` reads (FEED): each is answered by value, and one function says an answer as the line that is printed.
+#![tactic(auto)]
+
 ghost use Rattle.std.specs.Prelude.{◌≡◌};
 ghost use Rattle.std.proofs.lemmas.List.Edits.{sets};
 ghost use Rattle.answers.specs.Lines.{fresh};

@@ -1,4 +1,6 @@
 // A receiver of containers that come late and twice: it holds up to eight, and hands them out in the order of their counters (02, A12).
+#![tactic(auto)]
+
 ghost use Rattle.std.specs.Prelude.{◌≡◌, ◌≤◌, length};
 ghost use Rattle.std.proofs.lemmas.List.Edits.{sets};
 ghost use Rattle.receiving.specs.Slots.{empty_slot, slot_of, container_in, is_held};

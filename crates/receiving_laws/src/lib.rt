@@ -1,1 +1,3 @@
 // Theorems about receivers, in proofs/; there is no code here.
+#![tactic(auto)]
+

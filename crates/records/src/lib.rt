@@ -1,4 +1,6 @@
 // Records one after the other: one byte tag, two bytes length with the high byte first, the payload (FEED; 02's tagged fields have the same shape).
+#![tactic(auto)]
+
 ghost use Rattle.std.specs.Prelude.{◌≡◌, ◌<◌};
 ghost use Rattle.records.specs.Records.{byte_at, pair_at, record_at};
 

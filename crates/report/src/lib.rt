@@ -1,4 +1,6 @@
 // What a container says, in one line of text (01, "Figures to check against": the program's line).
+#![tactic(auto)]
+
 ghost use Rattle.std.specs.Prelude.{◌≡◌, length};
 ghost use Rattle.std.proofs.lemmas.List.Edits.{sets};
 ghost use Rattle.container.specs.Reading.{reading};

@@ -1,4 +1,6 @@
 // The formats, and the 60 bytes of a line (01, "Video"; 000, 5.2.1 and 5.2.2).
+#![tactic(auto)]
+
 ghost use Rattle.std.specs.Prelude.{◌≡◌, [], ◌∷◌, ◌++◌, ◌+◌, ◌*◌, ◌/◌, ◌%◌, ◌≤◌, ◌<◌, length, get_or, drop};
 ghost use Rattle.sampling.specs.Formats.{named, row_of};
 ghost use Rattle.sampling.specs.Samples.{sample_at, tap_sum, mean_of, firsts, pixel_by, sample_done, sample_out};

@@ -1,5 +1,7 @@
 // The card's software as one value and seven calls: Setup, Line, Sound, an instant in floating point, Pack and the two restarts (01, "What the card's software does",
 // "What a caller is told"; 02, A3 and A9).
+#![tactic(auto)]
+
 ghost use Rattle.std.specs.Prelude.{◌≡◌, ◌≤◌, length};
 ghost use Rattle.picture.specs.Fields.{says_of};
 ghost use Rattle.session.specs.Session.{is_set, rule_listed, setup_number, set_up_with, setup_of, line_of, line_says, reached, sound_of, instant_of, video_restarted, audio_restarted};

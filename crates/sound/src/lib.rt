@@ -1,5 +1,7 @@
 // One instant of sound: its mix by either rule, its pseudo-absolute value, and the two filters (01, Audio; 000, 5.3.1 to 5.3.4; 02, A9).
 // A rule is its number: 2 rounds mixes towards zero, any other down, as 1 does. Setup takes 1 and 2 alone.
+#![tactic(auto)]
+
 ghost use Rattle.std.specs.Prelude.{◌≡◌, [], ◌∷◌, ◌+◌, ◌*◌, ◌≤◌, ◌<◌, length};
 ghost use Rattle.std.proofs.Math.IntN.{sub_ℕ};
 ghost use Rattle.sound.specs.Mix.{signed, signed_at, floor, quotient, mixed, pseudo_absolute, instant_bytes, instant_value};

@@ -1,5 +1,7 @@
 // Line writing: text put into a lent buffer piece after piece. Each function is given a place and answers the place after what it put.
 // Bytes that the buffer has no place for are left out.
+#![tactic(auto)]
+
 ghost use Rattle.std.specs.Prelude.{◌≡◌, ◌<◌};
 ghost use Rattle.text.specs.Spelling.{digit_of, digits_of, decimal_text, glyph_of, hex_of, hex_text};
 ghost use Rattle.text.specs.Lines.{place_past, Put, item, refused_text};

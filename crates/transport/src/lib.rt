@@ -1,4 +1,6 @@
 // Transport packets: a container's bytes under a start code, a length and CRC_32, for an MPEG-2 transport stream (02, A5; 001, 7.2).
+#![tactic(auto)]
+
 ghost use Rattle.std.specs.Prelude.{◌≡◌, ◌+◌, ◌≤◌, length};
 ghost use Rattle.laws.specs.Calls.{over};
 ghost use Rattle.transport.specs.Writing.{transport_bytes, write_done, write_out};

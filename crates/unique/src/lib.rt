@@ -1,1 +1,3 @@
 // Theorems about public functions, in proofs/; there is no code here.
+#![tactic(auto)]
+

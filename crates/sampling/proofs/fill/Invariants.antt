@@ -1,0 +1,18 @@
+-- `sampling::fill` meets its contract. The loop's invariant: the pixels passed stand at the front of the room, and the next one's first tap is at hand.
+use Prim.Native.Nat.{ℕ, ◌+◌, ◌-◌, ◌*◌, ◌≤◌, ◌<◌}
+use mathlib.Core.Path.{◌≡◌, refl, ap, ◌∙◌}
+use mathlib.Core.List.{◌++◌}
+use native.Mathlib.Omega.{arith}
+use native.Mathlib.Nat.{mul-le-mul_left}
+use lib.ListN.{length, drop, length-set}
+use Rattle.sampling.specs.Samples.{mean_of, pixel_by, firsts}
+use Rattle.sampling.proofs.Filled.{firsts_more}
+use Rattle.sampling.proofs.fill.Given as goal
+
+abbrev pub invariant-loop-i : goal.invariant-loop-i
+invariant-loop-i l =
+    ((l.i ≤ 60) × (l.at ≡ l.start + l.step * l.i - l.before))
+    × ((l.out ≡ firsts (pixel_by l.line l.start l.step l.before l.n) l.i ++ drop l.i l.initial.out) × (length l.out ≡ length l.initial.out))
+
+abbrev pub decreases-loop-i : goal.decreases-loop-i
+decreases-loop-i l = 60 - l.i

@@ -1,0 +1,15 @@
+-- `sampling::tap_sum` meets its contract. The loop's invariant: the two halves of `pairs` add up to the sum so far.
+use mathlib.Core.Path.{◌≡◌, refl, sym, ap, subst, ◌∙◌}
+use mathlib.Core.List.{List}
+use Prim.Native.Nat.{ℕ, ◌+◌, ◌-◌, ◌*◌, ◌/◌, ◌%◌, ◌≤◌, ◌<◌}
+use native.Mathlib.Omega.{arith}
+use Rattle.sampling.specs.Samples.{sample_at, tap_sum}
+use Rattle.sampling.proofs.Means.{sum_small, sum_two, sum_more, sample_small, one_tap}
+use Rattle.sampling.proofs.Pairs.{pair_more, last_more}
+use Rattle.sampling.proofs.tap_sum.Given as goal
+
+abbrev pub invariant-loop-i : goal.invariant-loop-i
+invariant-loop-i l = (l.i ≤ l.n) × (l.pairs % 65536 + l.pairs / 65536 ≡ tap_sum l.line l.s l.i)
+
+abbrev pub decreases-loop-i : goal.decreases-loop-i
+decreases-loop-i l = l.n - l.i

@@ -1,0 +1,8 @@
+-- `sound::envelope` meets its contract.
+use Rattle.sound.specs.Filter.{filter_next}
+use borrow.Author.Rules.{rules}
+use Rattle.sound.proofs.envelope.Goals as goal
+
+pub returns : goal.returns
+unfolding filter_next
+returns c = search rules
