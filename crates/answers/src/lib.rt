@@ -9,7 +9,7 @@ pub mod fault;
 pub mod say;
 
 // Why a record is bad.
-#[derive(Drop)]
+#[derive(Clone, Copy)]
 pub enum Cause {
     UnknownTag(u8),
     TooShort,
@@ -23,7 +23,7 @@ pub enum Cause {
 }
 
 // The calls that hand out bytes into a room.
-#[derive(Drop)]
+#[derive(Clone, Copy)]
 pub enum Hand {
     Pack,
     Sample,
@@ -38,14 +38,14 @@ pub enum Hand {
 }
 
 // A room that a record asks for, or why it has none.
-#[derive(Drop)]
+#[derive(Clone, Copy)]
 pub enum Room {
     Of(usize),
     Not(Cause),
 }
 
 // What the call of a record answers. Bytes that it hands out lie at the front of the work buffer.
-#[derive(Drop)]
+#[derive(Clone, Copy)]
 pub enum Answer {
     Setup(u8),
     Line(u8, Told),

@@ -8,7 +8,7 @@ ghost use Rattle.bench_audio.specs.Turns.{byte_in, bytes_in, four_or_five, taken
 use fingerprint::Fingerprint;
 use floats::{Five, Instant};
 
-#[derive(Drop)]
+#[derive(Clone, Copy)]
 struct Turn {
     fingerprint: Fingerprint,
     sum: u64,

@@ -12,7 +12,7 @@ use session::Session;
 mod instants;
 
 // What each frame has: the monitored lines of a format and so many others, so many blocks for each of the first `count` fingerprints, and room for its container.
-#[derive(Drop)]
+#[derive(Clone, Copy)]
 struct Load {
     format: u8,
     others: usize,
@@ -21,7 +21,7 @@ struct Load {
     room: usize,
 }
 
-#[derive(Drop)]
+#[derive(Clone, Copy)]
 struct Turn {
     session: Session,
     sum: u64,

@@ -6,7 +6,7 @@ ghost use Rattle.bench_video.specs.Bench.{value_of, step_of, after_lines};
 
 use picture::{Picture, Told};
 
-#[derive(Drop)]
+#[derive(Clone, Copy)]
 struct After {
     picture: Picture,
     sum: u32,

@@ -7,7 +7,7 @@ use answers::Answer;
 use session::Session;
 
 // What a record was answered, the session that the next one finds, and how many bytes the record has.
-#[derive(Drop)]
+#[derive(Clone, Copy)]
 struct Turn {
     answer: Answer,
     session: Session,

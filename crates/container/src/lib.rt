@@ -15,7 +15,7 @@ mod valid;
 mod write;
 
 // One audio fingerprint: AFDataCount is its size, and unused bytes are zero.
-#[derive(Drop)]
+#[derive(Clone, Copy)]
 pub struct Print {
     pub id: u8,
     pub mix: u8,
@@ -23,7 +23,7 @@ pub struct Print {
     pub bytes: [u8; 5],
 }
 
-#[derive(Drop)]
+#[derive(Clone, Copy)]
 pub struct Contents {
     pub counter: u8,
     pub rate: u8,
@@ -35,35 +35,35 @@ pub struct Contents {
 }
 
 // 0 and what the container says, or the refusal's number and all zero.
-#[derive(Drop)]
+#[derive(Clone, Copy)]
 pub struct Reading {
     pub number: u8,
     pub contents: Contents,
 }
 
 // A part as it is read: whether it is right, how many bytes it takes, and what it says.
-#[derive(Drop)]
+#[derive(Clone, Copy)]
 pub struct IdPart {
     pub ok: bool,
     pub used: usize,
     pub id: [u8; 20],
 }
 
-#[derive(Drop)]
+#[derive(Clone, Copy)]
 pub struct VideoPart {
     pub ok: bool,
     pub used: usize,
     pub video: Video,
 }
 
-#[derive(Drop)]
+#[derive(Clone, Copy)]
 pub struct PrintPart {
     pub ok: bool,
     pub used: usize,
     pub print: Print,
 }
 
-#[derive(Drop)]
+#[derive(Clone, Copy)]
 pub struct AudioPart {
     pub ok: bool,
     pub used: usize,
@@ -72,7 +72,7 @@ pub struct AudioPart {
 }
 
 // A part that is passed over: whether it is right, and how many bytes it takes.
-#[derive(Drop)]
+#[derive(Clone, Copy)]
 pub struct Span {
     pub ok: bool,
     pub used: usize,

@@ -38,8 +38,8 @@ fn write_video(v: Video, out: &mut [u8], at: usize) -> usize
 }
 
 fn write_print(p: Print, out: &mut [u8], at: usize) -> usize
-    requires fact_1 { PrintFits p }
-    requires fact_2 { at ≤ 1024 }
+    requires fits { PrintFits p }
+    requires within { at ≤ 1024 }
     ensures { (result ≡ at + length (print_bytes p)) × (out.new ≡ sets out.old at (print_bytes p)) }
 {
     let size = p.size as usize;
@@ -52,8 +52,8 @@ fn write_print(p: Print, out: &mut [u8], at: usize) -> usize
 
 // The first n fingerprints.
 fn write_run(prints: [Print; 32], n: usize, out: &mut [u8], at: usize) -> usize
-    requires fact_1 { RunFits n prints }
-    requires fact_2 { at ≤ 640 }
+    requires fits { RunFits n prints }
+    requires within { at ≤ 640 }
     ensures { (result ≡ at + length (run_bytes (take n prints))) × (out.new ≡ sets out.old at (run_bytes (take n prints))) }
 {
     let mut k = 0;
@@ -67,8 +67,8 @@ fn write_run(prints: [Print; 32], n: usize, out: &mut [u8], at: usize) -> usize
 }
 
 fn write_audio(prints: [Print; 32], n: usize, out: &mut [u8], at: usize) -> usize
-    requires fact_1 { RunFits n prints }
-    requires fact_2 { at ≤ 512 }
+    requires fits { RunFits n prints }
+    requires within { at ≤ 512 }
     ensures { (result ≡ at + length (audio_bytes n prints)) × (out.new ≡ sets out.old at (audio_bytes n prints)) }
 {
     if n == 0 {
@@ -81,8 +81,8 @@ fn write_audio(prints: [Print; 32], n: usize, out: &mut [u8], at: usize) -> usiz
 
 // Every part in its order.
 fn write_parts(c: Contents, out: &mut [u8], at: usize) -> usize
-    requires fact_1 { Fits c }
-    requires fact_2 { at ≤ 256 }
+    requires fits { Fits c }
+    requires within { at ≤ 256 }
     ensures { (result ≡ at + length (part_bytes c)) × (out.new ≡ sets out.old at (part_bytes c)) }
 {
     let present = c.hasid;
@@ -123,8 +123,8 @@ fn flag_byte(c: Contents) -> u8
 
 // The parts first, from place 4 on, then the header that counts them, then the checksum.
 pub(crate) fn encode(c: Contents, out: &mut [u8]) -> usize
-    requires fact_1 { Fits c }
-    requires fact_2 { 254 ≤ length out.old }
+    requires fits { Fits c }
+    requires room { 254 ≤ length out.old }
     ensures { (result ≡ length (bytes.encode c)) × (result ≤ 254) × (out.new ≡ sets out.old 0 (bytes.encode c)) }
 {
     let end = write_parts(c, out, 4);

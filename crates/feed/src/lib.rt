@@ -16,20 +16,20 @@ mod calls;
 mod values;
 
 // The instant that a record brings, or why it brings none.
-#[derive(Drop)]
+#[derive(Clone, Copy)]
 enum Brought {
     Of(Instant),
     Not(Cause),
 }
 
-#[derive(Drop)]
+#[derive(Clone, Copy)]
 pub struct Answered {
     pub answer: Answer,
     pub session: Session,
 }
 
 // An answer, how many bytes its line has, and the session that the next record finds.
-#[derive(Drop)]
+#[derive(Clone, Copy)]
 pub struct Fed {
     pub size: usize,
     pub answer: Answer,

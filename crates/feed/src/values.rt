@@ -33,8 +33,8 @@ fn float_at(payload: &[u8], at: usize) -> f32
 
 // The instant of a payload that has a kind and its values.
 fn instant_at(payload: &[u8]) -> Instant
-    requires fact_1 { mix_listed (byte_at payload.now 1) ≡ true }
-    requires fact_2 { length payload.now ≡ instant_size (byte_at payload.now 1) }
+    requires listed { mix_listed (byte_at payload.now 1) ≡ true }
+    requires whole { length payload.now ≡ instant_size (byte_at payload.now 1) }
     ensures { result ≡ instant_at payload.now }
 {
     let kind = payload[1];

@@ -12,7 +12,7 @@ use floats::Instant;
 
 // envelope and mean are E(i) and M(i) of the newest sample i; started says that there was one. wait samples pass before the next kept one.
 // held bits are not yet taken; bit k of them is bit k % 8 of byte k / 8.
-#[derive(Drop)]
+#[derive(Clone, Copy)]
 pub struct Fingerprint {
     mix: u8,
     envelope: u32,
@@ -24,14 +24,14 @@ pub struct Fingerprint {
 }
 
 // The fingerprint afterwards, and the bytes handed out, with zeros behind them.
-#[derive(Drop)]
+#[derive(Clone, Copy)]
 pub struct Taken {
     pub fingerprint: Fingerprint,
     pub bytes: [u8; 5],
 }
 
 // What every sample changes. The rest of a fingerprint changes only where a bit is kept, and need not be carried from sample to sample.
-#[derive(Drop)]
+#[derive(Clone, Copy)]
 struct Filters {
     envelope: u32,
     mean: u32,

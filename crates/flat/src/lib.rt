@@ -11,14 +11,14 @@ use container::{Contents, Print};
 use laws::Video;
 
 // Contents, where some 283 bytes are those of contents; else all zero.
-#[derive(Drop)]
+#[derive(Clone, Copy)]
 pub struct Unflat {
     pub ok: bool,
     pub contents: Contents,
 }
 
 // What a number of video values and two places say, where they say something.
-#[derive(Drop)]
+#[derive(Clone, Copy)]
 pub struct Values {
     pub ok: bool,
     pub video: Video,

@@ -10,7 +10,7 @@ ghost use Rattle.floats.specs.Values.{sample_of};
 ghost use Rattle.floats.specs.Instants.{kind_of, has_nan, float_value};
 
 // The five values of one 5.1 instant.
-#[derive(Drop)]
+#[derive(Clone, Copy)]
 pub struct Five {
     pub L: f32,
     pub R: f32,
@@ -19,7 +19,7 @@ pub struct Five {
     pub Rs: f32,
 }
 
-#[derive(Drop)]
+#[derive(Clone, Copy)]
 pub enum Instant {
     Mono(f32),
     Stereo(f32, f32),
@@ -28,8 +28,8 @@ pub enum Instant {
 
 // The floor of x times 32,768, for an x between -1 and 1: the product is exact, and where cutting its fraction off moved it up, one is taken off.
 fn floored(x: f32) -> i32
-    requires fact_1 { T (Ieee.lt (fin true 1 (pos 0)) x) }
-    requires fact_2 { T (Ieee.lt x (fin false 1 (pos 0))) }
+    requires above { T (Ieee.lt (fin true 1 (pos 0)) x) }
+    requires below { T (Ieee.lt x (fin false 1 (pos 0))) }
     ensures { result ≡ sample_of x }
 {
     let y = x * 32768.0;

@@ -12,7 +12,7 @@ mod places;
 pub mod report;
 
 // The faults of one packet: the number that refuses it, or 0, and then which of the others there are.
-#[derive(Drop)]
+#[derive(Clone, Copy)]
 pub struct Faults {
     pub refused: u8,
     pub counter: bool,
@@ -24,7 +24,7 @@ pub struct Faults {
 // What is known of the packets so far: whether one was accepted, and of the last of those its counter and its rate; of the last with audio how many
 // fingerprints it has, 0 where there is none; and for each place of a cadence at which the fitting may have begun the place that comes next, 40 where what came
 // does not fit.
-#[derive(Drop)]
+#[derive(Clone, Copy)]
 pub struct Known {
     accepted: bool,
     counter: u8,
@@ -33,14 +33,14 @@ pub struct Known {
     places: [u8; 40],
 }
 
-#[derive(Drop)]
+#[derive(Clone, Copy)]
 pub struct Judged {
     pub faults: Faults,
     pub known: Known,
 }
 
 // Whether a count of bytes fits nowhere, and the places after it.
-#[derive(Drop)]
+#[derive(Clone, Copy)]
 pub struct Fit {
     pub fault: bool,
     pub places: [u8; 40],

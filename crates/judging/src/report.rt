@@ -8,7 +8,7 @@ ghost use Rattle.judging.specs.Report.{Within, fresh_report, field_number, field
 use crate::{Faults, Known};
 
 // The packets judged, how many there are, the number that refuses the file or 0, and how many bytes the lines so far have.
-#[derive(Drop)]
+#[derive(Clone, Copy)]
 pub struct Report {
     pub number: u8,
     known: Known,

@@ -5,14 +5,14 @@ ghost use Rattle.std.specs.Prelude.{◌≡◌, cond, ◌≤◌};
 ghost use Rattle.std.proofs.lemmas.List.Edits.{sets};
 
 // 0 and how many bytes were written, or the refusal's number and 0 (01, "What a caller is told").
-#[derive(Drop)]
+#[derive(Clone, Copy)]
 pub struct Done {
     pub number: u8,
     pub written: usize,
 }
 
 // What a frame shows and a container says of its video: "one of none, one field or two".
-#[derive(Drop)]
+#[derive(Clone, Copy)]
 pub enum Video {
     Absent,
     One(u8),

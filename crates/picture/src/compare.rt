@@ -6,7 +6,7 @@ ghost use Rattle.picture.specs.Fields.{is_brighter, is_darker, brighter_in, dark
 use crate::Told;
 
 // The pixels that went brighter by 32 or more, and those that went darker.
-#[derive(Drop)]
+#[derive(Clone, Copy)]
 struct Counts {
     brighter: u16,
     darker: u16,

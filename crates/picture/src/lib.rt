@@ -14,7 +14,7 @@ ghost use Rattle.laws.specs.Video.{video_values};
 use laws::Video;
 
 // What a line tells: the field goes on, or it ended with no fingerprint, or with this one and so many pixels brighter and darker by 32 or more.
-#[derive(Drop)]
+#[derive(Clone, Copy)]
 pub enum Told {
     Open,
     Nothing,
@@ -26,7 +26,7 @@ pub enum Told {
 }
 
 // The frame being filled, by its field (1 or 2) and what its field 1 shows, and the frame that waits to be packed, by what it shows.
-#[derive(Drop)]
+#[derive(Clone, Copy)]
 pub struct Frame {
     field: u8,
     first: Video,
@@ -36,7 +36,7 @@ pub struct Frame {
 
 // The field being filled, with the number of its rows that are there, and the two fields before it: `newer` the one just before, `older` the second
 // preceding one. As many of the two are there as `held` says.
-#[derive(Drop)]
+#[derive(Clone, Copy)]
 pub struct Picture {
     older: [u8; 960],
     newer: [u8; 960],
@@ -47,7 +47,7 @@ pub struct Picture {
 }
 
 // What Line answers: 01's number, what the line tells, and the picture after it.
-#[derive(Drop)]
+#[derive(Clone, Copy)]
 pub struct Scanned {
     pub number: u8,
     pub told: Told,
@@ -55,7 +55,7 @@ pub struct Scanned {
 }
 
 // What handing a frame out gives: the picture after it, and what the frame shows.
-#[derive(Drop)]
+#[derive(Clone, Copy)]
 pub struct Handed {
     pub picture: Picture,
     pub shown: Video,

@@ -7,7 +7,7 @@ use answers::Answer;
 use receiving::Receiver;
 
 // What a record was answered, the receiver that the next one finds, and how many bytes the record has.
-#[derive(Drop)]
+#[derive(Clone, Copy)]
 struct Turn {
     answer: Answer,
     receiver: Receiver,

@@ -11,14 +11,14 @@ use laws::Done;
 use receiving::Receiver;
 use records::Record;
 
-#[derive(Drop)]
+#[derive(Clone, Copy)]
 pub struct Answered {
     pub answer: Answer,
     pub receiver: Receiver,
 }
 
 // An answer, how many bytes its line has, and the receiver that the next record finds.
-#[derive(Drop)]
+#[derive(Clone, Copy)]
 pub struct Fed {
     pub size: usize,
     pub answer: Answer,

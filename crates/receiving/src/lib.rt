@@ -8,27 +8,27 @@ ghost use Rattle.receiving.specs.Receiver.{fresh_of, slot_at, arrive_of, moved_o
 ghost use Rattle.receiving.specs.Numbers.{ahead, place_number, next_number};
 
 // A place for a container, which lies at the front of its bytes; size 0 where none is held.
-#[derive(Drop)]
+#[derive(Clone, Copy)]
 pub struct Slot {
     size: u8,
     bytes: [u8; 255],
 }
 
 // What is held stands in the place that is as far on as its counter is ahead of the expected one.
-#[derive(Drop)]
+#[derive(Clone, Copy)]
 pub struct Receiver {
     expected: u8,
     held: [Slot; 8],
 }
 
 // What each call answers: 02's number, and the receiver after it.
-#[derive(Drop)]
+#[derive(Clone, Copy)]
 pub struct Arrived {
     pub number: u8,
     pub receiver: Receiver,
 }
 
-#[derive(Drop)]
+#[derive(Clone, Copy)]
 pub struct Asked {
     pub number: u8,
     pub written: usize,

@@ -5,7 +5,7 @@ ghost use Rattle.std.specs.Prelude.{◌≡◌, ◌<◌};
 ghost use Rattle.records.specs.Records.{byte_at, pair_at, record_at};
 
 // What stands at a place of a run of records.
-#[derive(Drop)]
+#[derive(Clone, Copy)]
 pub enum Record {
     // A whole record, whose payload lies from start up to end.
     Whole { tag: u8, start: usize, end: usize },

@@ -6,7 +6,7 @@ ghost use Rattle.sampling.specs.Formats.{named, row_of};
 ghost use Rattle.sampling.specs.Samples.{sample_at, tap_sum, mean_of, firsts, pixel_by, sample_done, sample_out};
 
 // A row of 01's table. vstart2 is 0 where a frame is one field; the taps of a pixel go from before samples before it to after samples after it.
-#[derive(Drop)]
+#[derive(Clone, Copy)]
 pub struct Row {
     pub width: usize,
     pub lines: usize,

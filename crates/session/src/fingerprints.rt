@@ -7,14 +7,14 @@ use container::Print;
 use fingerprint::Fingerprint;
 
 // What a container says of a fingerprint, and the fingerprint without those bytes.
-#[derive(Drop)]
+#[derive(Clone, Copy)]
 pub(crate) struct Part {
     pub(crate) print: Print,
     pub(crate) left: Fingerprint,
 }
 
 // The same of all fingerprints.
-#[derive(Drop)]
+#[derive(Clone, Copy)]
 pub(crate) struct Parts {
     pub(crate) said: [Print; 32],
     pub(crate) left: [Fingerprint; 32],

@@ -15,7 +15,7 @@ mod fingerprints;
 mod packing;
 
 // What Setup fixes. An empty session has no fingerprint: count 0.
-#[derive(Drop)]
+#[derive(Clone, Copy)]
 pub struct Settings {
     format: u8,
     rate: u8,
@@ -24,7 +24,7 @@ pub struct Settings {
 }
 
 // What a session has beside its fingerprints: the counter of its next container, and the place of the cadence, counted from 0.
-#[derive(Drop)]
+#[derive(Clone, Copy)]
 pub struct Programme {
     settings: Settings,
     picture: Picture,
@@ -32,33 +32,33 @@ pub struct Programme {
     place: u8,
 }
 
-#[derive(Drop)]
+#[derive(Clone, Copy)]
 pub struct Session {
     programme: Programme,
     fingerprints: [Fingerprint; 32],
 }
 
 // What each call answers: 01's number, what it tells beside, and the session after it.
-#[derive(Drop)]
+#[derive(Clone, Copy)]
 pub struct Begun {
     pub number: u8,
     pub session: Session,
 }
 
-#[derive(Drop)]
+#[derive(Clone, Copy)]
 pub struct Lined {
     pub number: u8,
     pub told: Told,
     pub session: Session,
 }
 
-#[derive(Drop)]
+#[derive(Clone, Copy)]
 pub struct Sounded {
     pub number: u8,
     pub session: Session,
 }
 
-#[derive(Drop)]
+#[derive(Clone, Copy)]
 pub struct Packed {
     pub number: u8,
     pub written: usize,

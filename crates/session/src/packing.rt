@@ -7,7 +7,7 @@ use crate::{Programme, Session};
 use container::Contents;
 
 // What a container says, and the session after it, made together.
-#[derive(Drop)]
+#[derive(Clone, Copy)]
 pub(crate) struct Packing {
     pub(crate) contents: Contents,
     pub(crate) session: Session,

@@ -8,6 +8,7 @@ use Rattle.sampling.specs.Samples.{sample_at, mean_of, pixel_by, firsts}
 use Rattle.sampling.proofs.Means.{sample_small, single}
 use Rattle.sampling.proofs.Filled.{firsts_four}
 use Rattle.sampling.proofs.fill_single.Goals as goal
+use Rattle.sampling.proofs.fill_single.Goals.{In-loop-i}
 
 -- four pixels are to come, and their places are at most the last one's
 spaced : (c : goal.In-loop-i) → (c.loop-i.i ≤ 56) × (c.args.step * c.loop-i.i ≤ c.args.step * 56)

@@ -1,5 +1,5 @@
 -- `sampling::row_of` meets its contract: the table's row, and zeros where the format is not listed.
-use Prim.Native.Nat.{ℕ}
+use Prim.Native.Nat.{ℕ, ◌≤◌}
 use mathlib.Core.Path.{◌≡◌, sym, ap, ◌∙◌}
 use native.Mathlib.Omega.{arith}
 use Rattle.laws.proofs.Tests.{NoneOf, none_left}
@@ -15,36 +15,36 @@ arm e h = h ∙ sym (ap row_of e)
 
 pub returns-in-0 : goal.returns-in-0
 unfolding row_of table
-returns-in-0 c = arm c.in_default.keys1 c.by_name.ensures
+returns-in-0 c = arm c.in-0.is c.by_name.ensures
 
 pub returns-in-1 : goal.returns-in-1
 unfolding row_of table
-returns-in-1 c = arm c.in_default.keys2 c.by_name-in-1.ensures
+returns-in-1 c = arm c.in-1.is c.by_name-in-1.ensures
 
 pub returns-in-2 : goal.returns-in-2
 unfolding row_of table
-returns-in-2 c = arm c.in_default.keys3 c.by_name-in-2.ensures
+returns-in-2 c = arm c.in-2.is c.by_name-in-2.ensures
 
 pub returns-in-3 : goal.returns-in-3
 unfolding row_of table
-returns-in-3 c = arm c.in_default.keys4 c.by_name-in-3.ensures
+returns-in-3 c = arm c.in-3.is c.by_name-in-3.ensures
 
 pub returns-in-4 : goal.returns-in-4
 unfolding row_of table
-returns-in-4 c = arm c.in_default.keys5 c.by_name-in-4.ensures
+returns-in-4 c = arm c.in-4.is c.by_name-in-4.ensures
 
 pub returns-in-5 : goal.returns-in-5
 unfolding row_of table
-returns-in-5 c = arm c.in_default.keys6 c.by_name-in-5.ensures
+returns-in-5 c = arm c.in-5.is c.by_name-in-5.ensures
 
 pub returns-in-6 : goal.returns-in-6
 unfolding row_of table
-returns-in-6 c = arm c.in_default.keys7 c.by_name-in-6.ensures
+returns-in-6 c = arm c.in-6.is c.by_name-in-6.ensures
 
 pub returns-in-7 : goal.returns-in-7
 unfolding row_of table
-returns-in-7 c = arm c.in_default.keys8 c.by_name-in-7.ensures
+returns-in-7 c = arm c.in-7.is c.by_name-in-7.ensures
 
 pub returns-in_default : goal.returns-in_default
 unfolding named NoneOf
-returns-in_default c = c.by_name-in_default.ensures ∙ sym (no_row _ (none_left _ 0 8 c.in_default.rest (omega arith)))
+returns-in_default c = let h : 8 ≤ c.args.format = omega arith in c.by_name-in_default.ensures ∙ sym (no_row _ h)

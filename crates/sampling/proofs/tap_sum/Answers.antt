@@ -6,6 +6,7 @@ use Rattle.sampling.specs.Samples.{sample_at, tap_sum}
 use Rattle.sampling.proofs.Means.{sum_small, sum_two, sum_more, sample_small, one_tap}
 use Rattle.sampling.proofs.Pairs.{pair_more, last_more}
 use Rattle.sampling.proofs.tap_sum.Goals as goal
+use Rattle.sampling.proofs.tap_sum.Goals.{After-tap_pair-last}
 
 -- what is there of the taps passed: small in both halves
 small : (l : List ℕ) (s i pairs : ℕ) → i ≤ 6 → pairs % 65536 + pairs / 65536 ≡ tap_sum l s i → pairs % 65536 + pairs / 65536 ≤ 1530
@@ -73,7 +74,7 @@ pub halves-requires-2 : goal.halves-requires-2
 halves-requires-2 c =
     let a = c.args in
     let k : tap_sum a.line.now a.s a.n < 65536 = omega (arith, sum_small a.line.now a.s a.n) in
-    subst (λ (x : ℕ). x < 65536) (sym (last c)) k
+    subst (λ (x : ℕ). x < 65536) (sym (last (goal.at.halves-requires-2 c).After-tap_pair-last)) k
 
 pub returns : goal.returns
-returns c = c.halves-2.ensures ∙ last c
+returns c = c.halves-2.ensures ∙ last (goal.at.returns c).After-tap_pair-last

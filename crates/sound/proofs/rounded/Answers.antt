@@ -6,6 +6,7 @@ use Rattle.laws.proofs.Whole.{by_order}
 use Rattle.sound.proofs.Rounding.{lowered_is, quotient_small, floor_lowered}
 use borrow.Author.Rules.{rules}
 use Rattle.sound.proofs.rounded.Goals as goal
+use Rattle.sound.proofs.rounded.Goals.{After-lift}
 
 -- the quotient of the lifted sum is that of 16 bits
 small : (c : goal.After-lift) → (c.args.sum + c.lift.result + (32768 * c.args.d - c.args.bias)) / c.args.d < 65536
