@@ -121,7 +121,7 @@ video_typed rate = chosen TypedVideo (two_fields rate) _ _ (λ _. (omega arith, 
 full_typed : (rate : ℕ) → most_bytes rate ≤ 5 → Typed (full_contents rate)
 full_typed rate h = record {
   counter = omega arith;
-  id-long = refl;
+  id_long = refl;
   id = bytes_replicate 20 255 (omega arith);
   video = video_typed rate;
   many = refl;

@@ -251,6 +251,6 @@ read_as_written c t e =
     let s : List ℕ = front ++ (z ∷ []) in
     let l : length s ≡ length b + 5 = omega (arith, length-append b (z ∷ [])) in
     let h : HeaderRight s =
-    record { five = omega arith; version = refl; counted = omega arith; check = check_0 front; rate = rw f.rate p.rate; bit-3 = f.low } in
+    record { five = omega arith; version = refl; counted = omega arith; check = check_0 front; rate = rw f.rate p.rate; bit_3 = f.low } in
     let m : take (length s - 5) (b ++ (z ∷ [])) ≡ b = take_at b (z ∷ []) (length s - 5) (omega arith) in
     rw (eq-eqb (header_number s) 0 (header_0 s h), m) (parts_there c t p)

@@ -253,7 +253,7 @@ module _ (xs : ℕ → ℕ) where
     unfolding with_audio
     contents_typed c e t = record {
       counter = t.counter;
-      id-long = t.id_long;
+      id_long = t.id_long;
       id = t.id;
       video = t.video;
       many = length-map c.prints (print_as xs) ∙ t.many;

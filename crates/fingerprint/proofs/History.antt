@@ -76,7 +76,7 @@ module _ (mix d : ℕ) (h : List ℕ) (taken : ℕ) (f : Fingerprint) (H : Holds
 pub holds_fresh : (mix d : ℕ) → 0 < d → Holds mix d [] 0 (fresh_of mix)
 unfolding fresh_of filtered some
 holds_fresh mix d p = record {
-  mix-type = refl;
+  mix_type = refl;
   envelope = refl;
   mean = refl;
   started = refl;
@@ -118,7 +118,7 @@ module _ (mix d : ℕ) (h : List ℕ) (taken : ℕ) (f : Fingerprint) (H : Holds
       → Holds mix d (a ∷ h) taken (step_of d f a)
   unfolding made some
   grown w n bytes is next soon room size small bits clean = subst (λ (g : Fingerprint). Holds mix d (a ∷ h) taken g) (sym is) (record {
-    mix-type = H.mix_type;
+    mix_type = H.mix_type;
     envelope = envelope_next;
     mean = mean_next;
     started = refl;
@@ -207,7 +207,7 @@ module _ (mix d : ℕ) (h : List ℕ) (taken : ℕ) (f : Fingerprint) (H : Holds
 pub holds_taken : (mix d : ℕ) (h : List ℕ) (taken : ℕ) (f : Fingerprint) → Holds mix d h taken f → (n : ℕ) → 8 * n ≤ f.held → Holds mix d h (taken + 8 * n) (without f n)
 unfolding without holding
 holds_taken mix d h taken f H n fit = record {
-  mix-type = H.mix_type;
+  mix_type = H.mix_type;
   envelope = H.envelope;
   mean = H.mean;
   started = H.started;
