@@ -1,6 +1,6 @@
 -- `floats::has_nan` meets its contract: in each arm the instant is that case of some values.
 use Rattle.std.proofs.Common.{◌≡◌, Bool, true, false, ◌||◌, sym, refl, ap, ◌∙◌, ap₂, rules}
-use lib.Ieee.{isNan}
+use lib.Ieee.{is_nan}
 use Rattle.floats.specs.declared.Five.{Five}
 use Rattle.floats.specs.Instants.{has_nan}
 use Rattle.floats.proofs.has_nan.Goals as goal
@@ -21,16 +21,15 @@ five false false false d e = two d e
 
 pub returns-in-Mono : goal.returns-in-Mono
 unfolding has_nan
-returns-in-Mono c = let g = c.i-1.given in c.is_nan.ensures ∙ one (isNan g.0.0) ∙ sym (ap has_nan g.1)
+returns-in-Mono c = c.is_nan.ensures ∙ one (is_nan c.in-Mono.x) ∙ sym (ap has_nan c.in-Mono.is)
 
 pub returns-in-Stereo : goal.returns-in-Stereo
 unfolding has_nan
-returns-in-Stereo c = let g = c.i-in-Stereo-1.given in ap₂ ◌||◌ c.is_nan-in-Stereo.ensures c.is_nan-in-Stereo-2.ensures ∙ two (isNan g.0.0) (isNan g.0.1.0) ∙ sym (ap has_nan g.1)
+returns-in-Stereo c = ap₂ ◌||◌ c.is_nan-in-Stereo.ensures c.is_nan-in-Stereo-2.ensures ∙ two (is_nan c.in-Stereo.l) (is_nan c.in-Stereo.r) ∙ sym (ap has_nan c.in-Stereo.is)
 
 pub returns-in-Five : goal.returns-in-Five
 unfolding has_nan
 returns-in-Five c =
-    let g = c.i-in-Five-1.given in
-    let f : Five = g.0.0 in
+    let f : Five = c.in-Five.f in
     ap₂ ◌||◌ (ap₂ ◌||◌ (ap₂ ◌||◌ (ap₂ ◌||◌ c.is_nan-in-Five.ensures c.is_nan-in-Five-2.ensures) c.is_nan-in-Five-3.ensures) c.is_nan-in-Five-4.ensures) c.is_nan-in-Five-5.ensures
-    ∙ five (isNan f.L) (isNan f.R) (isNan f.C) (isNan f.Ls) (isNan f.Rs) ∙ sym (ap has_nan g.1)
+    ∙ five (is_nan f.L) (is_nan f.R) (is_nan f.C) (is_nan f.Ls) (is_nan f.Rs) ∙ sym (ap has_nan c.in-Five.is)

@@ -6,6 +6,8 @@ use Rattle.floats.proofs.is_nan.Goals as goal
 
 not_both : (p q : Bool) → T p → T q → not (p && q) ≡ false
 not_both true true a b = refl
+not_both true false a b = absurd b
+not_both false q a b = absurd a
 
 differs : (x : Float) → ne x x ≡ is_nan x
 unfolding ne is_nan

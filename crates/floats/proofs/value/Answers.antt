@@ -9,23 +9,20 @@ pub returns-in-Mono : goal.returns-in-Mono
 unfolding float_value
 returns-in-Mono c =
     let rule = c.args.rule in
-    let g = c.i-1.given in
-    c.mono_value.ensures ∙ ap pseudo_absolute (c.bits_of.ensures ∙ sym (mono_mixed rule _)) ∙ sym (ap (float_value rule) g.1)
+    c.mono_value.ensures ∙ ap pseudo_absolute (c.bits_of.ensures ∙ sym (mono_mixed rule _)) ∙ sym (ap (float_value rule) c.in-Mono.is)
 
 pub returns-in-Stereo : goal.returns-in-Stereo
 unfolding float_value
 returns-in-Stereo c =
     let rule = c.args.rule in
-    let g = c.i-in-Stereo-1.given in
     c.stereo_value.ensures ∙ ap (λ (zs : List ℤ). pseudo_absolute (mixed rule 2 zs)) (ap₂ (λ (l r : ℤ). l ∷ r ∷ []) c.bits_of-in-Stereo.ensures c.bits_of-in-Stereo-2.ensures)
-    ∙ sym (ap (float_value rule) g.1)
+    ∙ sym (ap (float_value rule) c.in-Stereo.is)
 
 pub returns-in-Five : goal.returns-in-Five
 unfolding float_value
 returns-in-Five c =
     let rule = c.args.rule in
-    let g = c.i-in-Five-1.given in
     c.five_value.ensures
     ∙ ap (λ (zs : List ℤ). pseudo_absolute (mixed rule 5 zs))
     (ap₂ ◌∷◌ c.bits_of-in-Five.ensures (ap₂ ◌∷◌ c.bits_of-in-Five-2.ensures (ap₂ ◌∷◌ c.bits_of-in-Five-3.ensures (ap₂ ◌∷◌ c.bits_of-in-Five-4.ensures (ap₂ ◌∷◌ c.bits_of-in-Five-5.ensures refl)))))
-    ∙ sym (ap (float_value rule) g.1)
+    ∙ sym (ap (float_value rule) c.in-Five.is)

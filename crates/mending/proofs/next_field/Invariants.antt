@@ -1,0 +1,17 @@
+-- `mending::next_field` meets its contract. The loop's invariant: the place asked for is the next one from here on.
+use Prim.Native.Nat.{◌+◌, ◌-◌, ◌≤◌}
+use mathlib.Core.Path.{◌≡◌, refl, sym, ap, ◌∙◌}
+use native.Mathlib.Omega.{arith}
+use lib.ListN.{length, drop}
+use Rattle.laws.proofs.Lists.{tail_part}
+use Rattle.mending.specs.Fields.{acceptable}
+use Rattle.mending.specs.Places.{gap}
+use Rattle.mending.proofs.Gaps.{gap_none, gap_step, gap_end}
+use borrow.Author.Rules.{rules}
+use Rattle.mending.proofs.next_field.Given as goal
+
+abbrev pub invariant-loop-at : goal.invariant-loop-at
+invariant-loop-at l = (l.at ≤ length l.recording) × (l.from + gap (drop l.from l.recording) ≡ l.at + gap (drop l.at l.recording))
+
+abbrev pub decreases-loop-at : goal.decreases-loop-at
+decreases-loop-at l = length l.recording - l.at

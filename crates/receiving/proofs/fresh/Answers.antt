@@ -1,0 +1,8 @@
+-- `receiving::fresh` meets its contract.
+use Rattle.receiving.specs.Receiver.{fresh_of}
+use borrow.Author.Rules.{rules}
+use Rattle.receiving.proofs.fresh.Goals as goal
+
+pub returns : goal.returns
+unfolding fresh_of
+returns c = rw c.empty_slot-none.ensures
