@@ -1,0 +1,15 @@
+-- `bench_audio::bench_audio` meets its contract.
+use Prim.Native.Nat.{◌-◌, ◌≤◌, ◌<◌}
+use mathlib.Core.Path.{◌≡◌, ap, ◌∙◌}
+use native.Mathlib.Numerals.{add-one}
+use native.Mathlib.Omega.{arith}
+use borrow.Author.Rules.{rules}
+use Rattle.bench_audio.specs.declared.Turn.{Turn}
+use Rattle.bench_audio.specs.Turns.{next_turn, turns, sum_after}
+use Rattle.bench_audio.proofs.bench_audio.Given as goal
+
+abbrev pub invariant-loop-i : goal.invariant-loop-i
+invariant-loop-i l = (l.i ≤ l.rounds) × (l.t ≡ turns l.rule l.mix l.d l.block l.i) × (l.t.sum < 4294967296)
+
+abbrev pub decreases-loop-i : goal.decreases-loop-i
+decreases-loop-i l = l.rounds - l.i

@@ -1,0 +1,34 @@
+use Prim.Native.Nat.{◌+◌, ◌-◌, ◌/◌, ◌%◌, ◌≤◌}
+use mathlib.Core.Path.{◌≡◌, refl, ap, ◌∙◌}
+use mathlib.Core.Bool.{cond}
+use mathlib.Core.Logic.{⊎_elim}
+use native.Mathlib.Omega.{arith}
+use native.Mathlib.Numerals.{add-one}
+use borrow.Author.Rules.{rules}
+use borrow.Author.Tests.{lt-ltb, le-ltb}
+use lib.Dec.{ltb}
+use lib.ListN.{length}
+use Rattle.bench_video.specs.declared.After.{After}
+use Rattle.bench_video.specs.Bench.{half_at, after_lines}
+use Rattle.bench_video.proofs.bench_lines.Goals as goal
+use Rattle.bench_video.proofs.bench_lines.Goals.{Joined-i-lt2}
+
+from_is :
+    (c : goal.Joined-i-lt2)
+    → let n = length c.args.lines.now in
+    c.if-i-lt2.from ≡ cond (ltb (c.loop-i.i / 16 % 4) 2) 0 (n / 2)
+from_is c =
+    ⊎_elim (λ w. simp (lt-ltb _ _ w.0.taken) w.1) (λ w. simp (le-ltb _ _ w.0.left) w.1) c.if-i-lt2.branch
+
+pub loop-i-init : goal.loop-i-init
+unfolding after_lines
+loop-i-init c = (search rules, simp c.fresh-p.ensures)
+
+pub loop-i-preserved : goal.loop-i-preserved
+unfolding after_lines half_at
+loop-i-preserved c =
+    let j = c in
+    let l = j.loop-i in
+    let n = length j.args.lines.now in
+    let e : j.if-i-lt2.from + n / 2 - j.if-i-lt2.from ≡ n / 2 = omega arith in
+    (search rules, c.step-a.ensures ∙ rw (add-one, e, l.invariant.1, from_is (goal.at.loop-i-preserved c).Joined-i-lt2) refl)

@@ -1,0 +1,34 @@
+-- `fingerprint::instant_number` meets its contract.
+use Prim.Native.Nat.{ℕ}
+use mathlib.Core.Path.{◌≡◌, sym, ◌∙◌}
+use mathlib.Core.Bool.{true, false, or-true}
+use borrow.Author.Tests.{eq-eqb, ne_eqb}
+use Rattle.floats.specs.declared.Instant.{Instant}
+use Rattle.floats.specs.Instants.{kind_of, has_nan}
+use Rattle.fingerprint.specs.declared.Fingerprint.{Fingerprint}
+use Rattle.fingerprint.specs.State.{store_number, instant_number}
+use borrow.Author.Rules.{rules}
+use Rattle.fingerprint.proofs.instant_number.Goals as goal
+
+-- its numbers, in their order
+module _ (d : ℕ) (f : Fingerprint) (i : Instant) where
+  nan_14 : has_nan i ≡ true → 14 ≡ instant_number d f i
+  unfolding instant_number
+  nan_14 e = rw e
+  kind_14 : (kind_of i ≡ f.mix → ⊥) → 14 ≡ instant_number d f i
+  unfolding instant_number
+  kind_14 e = rw (ne_eqb (kind_of i) f.mix e, or-true (has_nan i))
+  taken : has_nan i ≡ false → kind_of i ≡ f.mix → store_number f.held d f.wait 1 ≡ instant_number d f i
+  unfolding instant_number
+  taken e k = rw (e, eq-eqb (kind_of i) f.mix k)
+
+pub returns-then-has_nan : goal.returns-then-has_nan
+returns-then-has_nan c = let a = c.args in nan_14 a.d a.f a.i (sym c.has_nan.ensures ∙ c.if-has_nan.true)
+
+pub returns-then-kind-f : goal.returns-then-kind-f
+returns-then-kind-f c = let a = c.args in kind_14 a.d a.f a.i (λ e. c.if-kind-f.true (c.kind.ensures ∙ e))
+
+pub returns : goal.returns
+returns c =
+    let a = c.args in
+    c.store_number.ensures ∙ taken a.d a.f a.i (sym c.has_nan.ensures ∙ c.if-has_nan.false) (sym c.kind.ensures ∙ c.if-kind-f.false)

@@ -1,0 +1,18 @@
+-- `fingerprint::sound_number` meets its contract.
+use mathlib.Core.Path.{sym, ap, ◌∙◌}
+use borrow.Author.Tests.{not-true, not-false}
+use Rattle.fingerprint.specs.State.{store_number}
+use Rattle.fingerprint.proofs.Counts.{number_8, number_whole}
+use borrow.Author.Rules.{rules}
+use Rattle.fingerprint.proofs.sound_number.Goals as goal
+
+pub returns-then-not-whole_instants : goal.returns-then-not-whole_instants
+returns-then-not-whole_instants c =
+    let a = c.args in
+    number_8 a.d a.f a.len (sym c.whole_instants.ensures ∙ c.if-not-whole_instants.true)
+
+pub returns : goal.returns
+returns c =
+    let a = c.args in
+    c.store_number.ensures ∙ ap (store_number a.f.held a.d a.f.wait) c.instants_in.ensures
+    ∙ number_whole a.d a.f a.len (sym c.whole_instants.ensures ∙ c.if-not-whole_instants.false)

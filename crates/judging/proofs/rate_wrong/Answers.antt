@@ -1,0 +1,12 @@
+-- `judging::rate_wrong` meets its contract.
+use borrow.Author.Tests.{not-true, not-false}
+use Rattle.judging.specs.Judge.{rate_wrong}
+use Rattle.judging.proofs.rate_wrong.Goals as goal
+
+pub returns-then-not-k : goal.returns-then-not-k
+unfolding rate_wrong
+returns-then-not-k c = rw (c.if-not-k.true)
+
+pub returns : goal.returns
+unfolding rate_wrong
+returns c = rw (c.if-not-k.false)

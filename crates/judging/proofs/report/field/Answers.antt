@@ -1,0 +1,73 @@
+-- `judging::report::field` meets its contract.
+use Prim.Native.Nat.{ℕ, ◌+◌, ◌-◌, ◌≤◌, ◌<◌}
+use mathlib.Core.Path.{◌≡◌, sym, ap, ◌∙◌}
+use native.Mathlib.Omega.{arith}
+use lib.ListN.{length, take, drop}
+use Rattle.records.specs.Records.{pair_at}
+use Rattle.text.specs.Lines.{Put}
+use Rattle.text.proofs.Pieces.{put_as}
+use Rattle.judging.specs.declared.Judged.{Judged}
+use Rattle.judging.specs.Judge.{judged_of}
+use Rattle.judging.specs.Lines.{faults_text}
+use Rattle.judging.specs.Report.{field_size, packet_in, judged, lines_of}
+use Rattle.judging.proofs.Reports.{refused_before, no_byte, refused_here, judged_here, whole_field}
+use borrow.Author.Rules.{rules}
+use Rattle.judging.proofs.report.field.Goals as goal
+use Rattle.judging.proofs.report.field.Goals.{After-pair_at-end}
+
+-- the field is one of 500, and whole
+whole : (c : goal.After-pair_at-end) → (c.args.r.packets < 500) × (field_size c.args.bytes.now ≤ length c.args.bytes.now)
+whole c =
+    let a = c.args in
+    whole_field a.r.packets a.bytes.now (sym c.field_number-number.ensures ∙ c.if-number-ne0.false)
+
+pub returns-then-r-ne0-clause-value : goal.returns-then-r-ne0-clause-value
+returns-then-r-ne0-clause-value c =
+    let a = c.args in
+    (refused_before a.r a.bytes.now a.out.now c.if-r-ne0.true).0
+
+pub returns-then-bytes-eq0-clause-value : goal.returns-then-bytes-eq0-clause-value
+returns-then-bytes-eq0-clause-value c =
+    let a = c.args in
+    (no_byte a.r a.bytes.now a.out.now c.if-r-ne0.false c.if-bytes-eq0.true).0
+
+pub returns-then-number-ne0-clause-value : goal.returns-then-number-ne0-clause-value
+returns-then-number-ne0-clause-value c =
+    let a = c.args in
+    let n = c.field_number-number in
+    rw n.ensures (refused_here a.r a.bytes.now a.out.now c.if-r-ne0.false c.if-bytes-eq0.false (λ z. c.if-number-ne0.true (n.ensures ∙ z)))
+
+pub slice_bounds-judge-end : goal.slice_bounds-judge-end
+unfolding field_size
+slice_bounds-judge-end c = omega (arith, (whole (goal.at.slice_bounds-judge-end c).After-pair_at-end).1, c.pair_at-end.ensures.0)
+
+pub overflow_add-packets : goal.overflow_add-packets
+overflow_add-packets c = omega (arith, (whole (goal.at.overflow_add-packets c).After-pair_at-end).0)
+
+pub returns-clause-value : goal.returns-clause-value
+unfolding packet_in lines_of
+returns-clause-value c =
+    let a = c.args in
+    let f = a.bytes.now in
+    let n = c.pair_at-end in
+    let size : 3 + n.result - 3 ≡ pair_at f 1 = omega (arith, n.ensures.0) in
+    let j : c.judge-judged.result ≡ judged a.r f = c.judge-judged.ensures ∙ ap (λ (m : ℕ). judged_of a.r.known (take m (drop 3 f))) size in
+    let said : Put a.out.now a.r.size (lines_of a.r f) c.put_faults-size.new.out c.put_faults-size.result =
+    put_as (ap (λ (x : Judged). faults_text (a.r.packets + 1) x.faults) j) c.put_faults-size.ensures in
+    let number = sym c.field_number-number.ensures ∙ c.if-number-ne0.false in
+    rw (j, said.place, said.stands)
+    (judged_here a.r f a.out.now c.if-r-ne0.false c.if-bytes-eq0.false number (whole (goal.at.returns-clause-value c).After-pair_at-end).0)
+
+pub returns-clause-within : goal.returns-clause-within
+unfolding packet_in lines_of
+returns-clause-within c =
+    let a = c.args in
+    let f = a.bytes.now in
+    let n = c.pair_at-end in
+    let size : 3 + n.result - 3 ≡ pair_at f 1 = omega (arith, n.ensures.0) in
+    let j : c.judge-judged.result ≡ judged a.r f = c.judge-judged.ensures ∙ ap (λ (m : ℕ). judged_of a.r.known (take m (drop 3 f))) size in
+    let said : Put a.out.now a.r.size (lines_of a.r f) c.put_faults-size.new.out c.put_faults-size.result =
+    put_as (ap (λ (x : Judged). faults_text (a.r.packets + 1) x.faults) j) c.put_faults-size.ensures in
+    let number = sym c.field_number-number.ensures ∙ c.if-number-ne0.false in
+    rw (j, said.place, said.stands)
+    (judged_here a.r f a.out.now c.if-r-ne0.false c.if-bytes-eq0.false number (whole (goal.at.returns-clause-within c).After-pair_at-end).0)

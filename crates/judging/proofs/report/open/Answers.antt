@@ -1,0 +1,10 @@
+-- `judging::report::open` meets its contract.
+use mathlib.Core.Path.{refl}
+use native.Mathlib.Omega.{arith}
+use Rattle.judging.specs.Report.{fresh_report}
+use borrow.Author.Rules.{rules}
+use Rattle.judging.proofs.report.open.Goals as goal
+
+pub returns : goal.returns
+unfolding fresh_report
+returns c = rw c.fresh-known.ensures (refl, record { packets = omega arith; size = omega arith })

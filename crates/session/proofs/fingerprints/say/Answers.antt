@@ -1,0 +1,21 @@
+-- `session::fingerprints::say` meets its contract.
+use Prim.Native.Nat.{ℕ}
+use mathlib.Core.Path.{◌≡◌, ap, ◌∙◌}
+use mathlib.Core.List.{List}
+use Rattle.container.specs.declared.Print.{Print}
+use Rattle.fingerprint.specs.declared.Fingerprint.{Fingerprint}
+use Rattle.fingerprint.specs.declared.Taken.{Taken}
+use Rattle.session.specs.declared.fingerprints.Part.{Part}
+use Rattle.session.specs.Fingerprints.{print_of, shed, part_of}
+use borrow.Author.Rules.{rules}
+use Rattle.session.proofs.fingerprints.say.Goals as goal
+
+abbrev with : ℕ → ℕ → ℕ → Taken → Part
+with k mix due t = record { print = record { id = k; mix = mix; size = due; bytes = t.bytes }; left = t.fingerprint }
+
+pub returns : goal.returns
+unfolding part_of print_of shed
+returns c =
+    let a = c.args in
+    ap (λ (m : ℕ). with a.k m a.due c.take-t.result) c.mix_type.ensures
+    ∙ ap (λ (t : Taken). with a.k a.f.mix a.due t) c.take-t.ensures

@@ -1,0 +1,53 @@
+-- `session::instant` meets its contract.
+use Prim.Native.Nat.{ℕ, ◌<◌}
+use mathlib.Core.Path.{ap, ◌∙◌}
+use native.Mathlib.Omega.{arith}
+use lib.ListN.{get_or}
+use Rattle.floats.specs.Instants.{float_value}
+use Rattle.fingerprint.specs.State.{step_of, instant_number}
+use Rattle.session.specs.Session.{no_fingerprint, instanted_number, instant_of}
+use Rattle.session.proofs.Calls.{unreached, within_32, refused_own, heard_own}
+use borrow.Author.Rules.{rules}
+use Rattle.session.proofs.instant.Goals as goal
+use Rattle.session.proofs.instant.Goals.{Else-reach-ne0}
+
+in_table : (c : goal.Else-reach-ne0) → c.args.k < 32
+in_table c = let a = c.args in let r = c.reach_number-reach in within_32 a.s a.k r.result r.ensures c.if-reach-ne0.false
+
+pub returns-then-reach-ne0 : goal.returns-then-reach-ne0
+unfolding instant_of instanted_number
+returns-then-reach-ne0 c = let a = c.args in let r = c.reach_number-reach in unreached a.s a.k r.result r.ensures c.if-reach-ne0.true _ _
+
+pub offset_bounds-all-k : goal.offset_bounds-all-k
+offset_bounds-all-k c = omega (arith, in_table (goal.at.offset_bounds-all-k c).Else-reach-ne0)
+
+pub bounds-all-k : goal.bounds-all-k
+bounds-all-k c = omega (arith, in_table (goal.at.bounds-all-k c).Else-reach-ne0)
+
+pub returns-then-number-ne0 : goal.returns-then-number-ne0
+unfolding instant_of instanted_number
+returns-then-number-ne0 c =
+    let a = c.args in
+    let r = c.reach_number-reach in
+    let n = c.instant_number-number in
+    refused_own a.s a.k r.result r.ensures c.if-reach-ne0.false _ _ n.result
+    (n.ensures ∙ ap (λ (d : ℕ). instant_number d (get_or a.s.fingerprints a.k no_fingerprint) a.i) c.interval-d.ensures)
+    c.if-number-ne0.true
+
+pub offset_bounds-all-k-2 : goal.offset_bounds-all-k-2
+offset_bounds-all-k-2 c = omega (arith, in_table (goal.at.offset_bounds-all-k-2 c).Else-reach-ne0)
+
+pub bounds-all-k-2 : goal.bounds-all-k-2
+bounds-all-k-2 c = omega (arith, in_table (goal.at.bounds-all-k-2 c).Else-reach-ne0)
+
+pub returns : goal.returns
+unfolding instant_of instanted_number
+returns c =
+    let a = c.args in
+    let r = c.reach_number-reach in
+    let n = c.instant_number-number in
+    let i = c.interval-d in
+    heard_own a.s a.k r.result r.ensures c.if-reach-ne0.false _ _ n.result
+    (n.ensures ∙ ap (λ (d : ℕ). instant_number d (get_or a.s.fingerprints a.k no_fingerprint) a.i) i.ensures)
+    c.if-number-ne0.false c.heard_instant-heard.result
+    (c.heard_instant-heard.ensures ∙ ap (λ (d : ℕ). step_of d (get_or a.s.fingerprints a.k no_fingerprint) (float_value a.s.programme.settings.rule a.i)) i.ensures)
