@@ -1,4 +1,4 @@
-// What the card's host, written in C, calls; include/lipsync.h has the declarations.
+// What the card's host calls: `host_c` exports each of these functions to C.
 #![tactic(auto)]
 
 ghost use Rattle.std.specs.Prelude.{◌≡◌, length};
@@ -38,8 +38,7 @@ fn read_flat(bytes: &[u8], out: &mut [u8]) -> Done
 }
 
 // Read container, its contents flat: 20 to 28, 12.
-#[unsafe(no_mangle)]
-pub extern "C" fn lipsync_read_container(bytes: &[u8], out: &mut [u8], written: &mut usize) -> u8
+pub fn lipsync_read_container(bytes: &[u8], out: &mut [u8], written: &mut usize) -> u8
     ensures value { result ≡ (read_done bytes.now (length out.old)).number }
     ensures out_after { out.new ≡ read_out bytes.now out.old }
     ensures written_after { written.new ≡ (read_done bytes.now (length out.old)).written }
@@ -50,8 +49,7 @@ pub extern "C" fn lipsync_read_container(bytes: &[u8], out: &mut [u8], written: 
 }
 
 // Write packet: 20 to 28, 12.
-#[unsafe(no_mangle)]
-pub extern "C" fn lipsync_write_packet(container: &[u8], out: &mut [u8], written: &mut usize) -> u8
+pub fn lipsync_write_packet(container: &[u8], out: &mut [u8], written: &mut usize) -> u8
     ensures value { result ≡ (write_done container.now (length out.old)).number }
     ensures out_after { out.new ≡ write_out container.now out.old }
     ensures written_after { written.new ≡ (write_done container.now (length out.old)).written }
@@ -62,8 +60,7 @@ pub extern "C" fn lipsync_write_packet(container: &[u8], out: &mut [u8], written
 }
 
 // Read packet: 30 to 36, 20 to 28, 12.
-#[unsafe(no_mangle)]
-pub extern "C" fn lipsync_read_packet(words: &[u8], out: &mut [u8], written: &mut usize) -> u8
+pub fn lipsync_read_packet(words: &[u8], out: &mut [u8], written: &mut usize) -> u8
     ensures value { result ≡ (packet.read_done words.now (length out.old)).number }
     ensures out_after { out.new ≡ packet.read_out words.now out.old }
     ensures written_after { written.new ≡ (packet.read_done words.now (length out.old)).written }
@@ -74,8 +71,7 @@ pub extern "C" fn lipsync_read_packet(words: &[u8], out: &mut [u8], written: &mu
 }
 
 // Write transport packet: 20 to 28, 12.
-#[unsafe(no_mangle)]
-pub extern "C" fn lipsync_write_transport(
+pub fn lipsync_write_transport(
     container: &[u8],
     out: &mut [u8],
     written: &mut usize,
@@ -90,8 +86,7 @@ pub extern "C" fn lipsync_write_transport(
 }
 
 // Read transport packet: 40 to 43, 20 to 28, 12.
-#[unsafe(no_mangle)]
-pub extern "C" fn lipsync_read_transport(bytes: &[u8], out: &mut [u8], written: &mut usize) -> u8
+pub fn lipsync_read_transport(bytes: &[u8], out: &mut [u8], written: &mut usize) -> u8
     ensures value { result ≡ (transport_reading.read_done bytes.now (length out.old)).number }
     ensures out_after { out.new ≡ transport_reading.read_out bytes.now out.old }
     ensures written_after { written.new ≡ (transport_reading.read_done bytes.now (length out.old)).written }
@@ -102,8 +97,7 @@ pub extern "C" fn lipsync_read_transport(bytes: &[u8], out: &mut [u8], written: 
 }
 
 // Mend: 51, 50, 12.
-#[unsafe(no_mangle)]
-pub extern "C" fn lipsync_mend(recording: &[u8], out: &mut [u8], written: &mut usize) -> u8
+pub fn lipsync_mend(recording: &[u8], out: &mut [u8], written: &mut usize) -> u8
     ensures value { result ≡ (mend_done recording.now (length out.old)).number }
     ensures out_after { out.new ≡ mend_out recording.now out.old }
     ensures written_after { written.new ≡ (mend_done recording.now (length out.old)).written }
@@ -114,8 +108,7 @@ pub extern "C" fn lipsync_mend(recording: &[u8], out: &mut [u8], written: &mut u
 }
 
 // Line sampling: 1, 2, 12.
-#[unsafe(no_mangle)]
-pub extern "C" fn lipsync_sample_line(
+pub fn lipsync_sample_line(
     format: u8,
     line: &[u8],
     out: &mut [u8],
@@ -131,8 +124,7 @@ pub extern "C" fn lipsync_sample_line(
 }
 
 // Whether a line of a format is monitored, for a host that skips the others.
-#[unsafe(no_mangle)]
-pub extern "C" fn lipsync_is_monitored(format: u8, line: usize) -> bool
+pub fn lipsync_is_monitored(format: u8, line: usize) -> bool
     ensures { result ≡ is_monitored format line }
 {
     picture::is_monitored(format, line)

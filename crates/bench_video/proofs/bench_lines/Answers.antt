@@ -1,7 +1,6 @@
 use Prim.Native.Nat.{◌+◌, ◌-◌, ◌/◌, ◌%◌, ◌≤◌}
 use mathlib.Core.Path.{◌≡◌, refl, ap, ◌∙◌}
 use mathlib.Core.Bool.{cond}
-use mathlib.Core.Logic.{⊎_elim}
 use native.Mathlib.Omega.{arith}
 use native.Mathlib.Numerals.{add-one}
 use borrow.Author.Rules.{rules}
@@ -11,14 +10,17 @@ use lib.ListN.{length}
 use Rattle.bench_video.specs.declared.After.{After}
 use Rattle.bench_video.specs.Bench.{half_at, after_lines}
 use Rattle.bench_video.proofs.bench_lines.Goals as goal
-use Rattle.bench_video.proofs.bench_lines.Goals.{Joined-i-lt2}
+use Rattle.bench_video.proofs.bench_lines.Goals.{Joined-i-lt2, then-i-lt2, else-i-lt2}
 
 from_is :
     (c : goal.Joined-i-lt2)
     → let n = length c.args.lines.now in
     c.if-i-lt2.from ≡ cond (ltb (c.loop-i.i / 16 % 4) 2) 0 (n / 2)
 from_is c =
-    ⊎_elim (λ w. simp (lt-ltb _ _ w.0.taken) w.1) (λ w. simp (le-ltb _ _ w.0.left) w.1) c.if-i-lt2.branch
+    elim c.if-i-lt2.branch [
+      then-i-lt2 w ↦ simp (lt-ltb _ _ w.if-i-lt2.true) w.from-is
+      | else-i-lt2 w ↦ simp (le-ltb _ _ w.if-i-lt2.false) w.from-is
+    ]
 
 pub loop-i-init : goal.loop-i-init
 unfolding after_lines

@@ -23,6 +23,6 @@ returns c =
     let w = a.work.now in
     let n = c.least-written.result in
     let h = fits (goal.at.returns c).Start in
-    let hex = put_as (ap (hex_part a.done.number) (ap (λ (k : ℕ). take k w) c.least-written.ensures ∙ least_take a.done.written w)) c.put_written.ensures in
+    let hex = put_as (ap (hex_part a.done.number) (ap (λ (k : ℕ). take k w) c.least-written.ensures ∙ least_take a.done.written w)) c.put_written-c.ensures in
     let spill = put_as (ap spill_part (tail_part w n ∙ ap (λ (k : ℕ). drop k w) c.least-written.ensures ∙ least_drop a.done.written w)) c.put_spill-e.ensures in
     put_then (put_then (put_then (put_then c.put_hand-a.ensures c.put_number-b.ensures h) hex h) spill h) c.put.ensures h

@@ -71,5 +71,5 @@ returns c =
     let f : l.k ≡ length ps = e ∙ sym n in
     ap₂ (λ (said : List Print) (left : List Fingerprint). record { said = said; left = left })
     (l.invariant.2 ∙ ap (λ (k : ℕ). take k ps ++ drop k (replicate 32 blank_print)) f
-    ∙ ap (λ (t : List Print). t ++ drop (length ps (goal.at.returns c).After-say-p) (replicate 32 blank_print)) (take_all (length ps (goal.at.returns c).After-say-p) ps (omega arith)))
+    ∙ ap (λ (t : List Print). t ++ drop (length ps) (replicate 32 blank_print)) (take_all (length ps) ps (omega arith)))
     (l.invariant.3 ∙ ap (λ (k : ℕ). each (shed a.due) k a.fingerprints) e)

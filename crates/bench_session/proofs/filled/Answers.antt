@@ -1,0 +1,16 @@
+-- `bench_session::filled` meets its contract.
+use mathlib.Core.Path.{ap, ◌∙◌}
+use Rattle.session.specs.declared.Session.{Session}
+use Rattle.bench_session.specs.Frames.{other_lines, sounds, filled_with}
+use borrow.Author.Rules.{rules}
+use Rattle.bench_session.proofs.filled.Goals as goal
+
+pub returns : goal.returns
+unfolding filled_with
+returns c =
+    let a = c.args in
+    let line = a.line.now in
+    let block = a.block.now in
+    c.heard.ensures
+    ∙ ap (λ (t : Session). sounds a.load.count block t a.load.blocks) c.others-more.ensures
+    ∙ ap (λ (t : Session). sounds a.load.count block (other_lines t line a.load.others) a.load.blocks) c.fields-ready.ensures

@@ -1,0 +1,15 @@
+-- `bench_session::heard` meets its contract. The loop's invariant: what the blocks passed make.
+use Prim.Native.Nat.{◌-◌, ◌≤◌}
+use mathlib.Core.Path.{◌≡◌, refl, ap, ◌∙◌}
+use native.Mathlib.Numerals.{add-one}
+use native.Mathlib.Omega.{arith}
+use borrow.Author.Rules.{rules}
+use Rattle.session.specs.declared.Session.{Session}
+use Rattle.bench_session.specs.Frames.{each_heard, sounds}
+use Rattle.bench_session.proofs.heard.Given as goal
+
+abbrev pub invariant-loop-k : goal.invariant-loop-k
+invariant-loop-k l = (l.k ≤ l.n) × (l.t ≡ sounds l.count l.block l.initial.t l.k)
+
+abbrev pub decreases-loop-k : goal.decreases-loop-k
+decreases-loop-k l = l.n - l.k

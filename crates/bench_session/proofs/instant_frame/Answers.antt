@@ -1,0 +1,16 @@
+-- `bench_session::instant_frame` meets its contract.
+use mathlib.Core.Path.{ap, ◌∙◌}
+use lib.ListN.{replicate}
+use borrow.Author.Rules.{rules}
+use Rattle.session.specs.declared.Session.{Session}
+use Rattle.bench_session.specs.Frames.{packed_in}
+use Rattle.bench_session.specs.Instants.{all_heard, instant_frame}
+use Rattle.bench_session.proofs.instant_frame.Goals as goal
+
+pub returns : goal.returns
+unfolding instant_frame
+returns c =
+    let a = c.args in
+    let p = c.packed in
+    let heard = c.all_heard-heard.ensures ∙ ap (all_heard a.count a.mix a.values.now) c.fields-ready.ensures in
+    (p.ensures.0 ∙ ap (λ (s : Session). packed_in (replicate 254 0) s a.t.sum) heard, p.ensures.1)

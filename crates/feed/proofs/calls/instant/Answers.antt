@@ -1,0 +1,29 @@
+-- `feed::calls::instant` meets its contract: the record brings no instant, or the call was made with it.
+use Prim.Native.Nat.{◌<◌}
+use mathlib.Core.Path.{sym, ap, ◌∙◌}
+use native.Mathlib.Omega.{arith}
+use lib.ListN.{length}
+use Rattle.records.specs.Records.{byte_at}
+use Rattle.feed.specs.Calls.{instanted, instant_with, instant_fed}
+use Rattle.feed.proofs.Instants.{brought_some}
+use borrow.Author.Rules.{rules}
+use Rattle.feed.proofs.calls.instant.Goals as goal
+use Rattle.feed.proofs.calls.instant.Goals.{In-Of}
+
+some : (c : goal.In-Of) → 0 < length c.args.payload.now
+some c = brought_some c.args.payload.now _ (sym c.instant_in-brought.ensures ∙ c.in-Of.is)
+
+pub bounds-payload-0 : goal.bounds-payload-0
+bounds-payload-0 c = some (goal.at.bounds-payload-0 c).In-Of
+
+pub returns-in-Not : goal.returns-in-Not
+unfolding instant_fed instant_with
+returns-in-Not c =
+    let a = c.args in
+    c.bad.ensures ∙ ap (instant_with a.s (byte_at a.payload.now 0)) (sym c.in-Not.is ∙ c.instant_in-brought.ensures)
+
+pub returns-in-Of : goal.returns-in-Of
+unfolding instant_fed instant_with instanted byte_at
+returns-in-Of c =
+    let a = c.args in
+    ap instanted c.instant-h.ensures ∙ ap (instant_with a.s (byte_at a.payload.now 0)) (sym c.in-Of.is ∙ c.instant_in-brought.ensures)

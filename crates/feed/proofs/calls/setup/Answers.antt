@@ -1,0 +1,22 @@
+-- `feed::calls::setup` meets its contract.
+use mathlib.Core.Path.{ap, ◌∙◌}
+use mathlib.Core.List.{List}
+use Prim.Native.Nat.{ℕ}
+use lib.ListN.{length, get_or}
+use Rattle.records.specs.Records.{byte_at}
+use Rattle.session.specs.Session.{setup_of}
+use Rattle.feed.specs.Calls.{begun, setup_fed}
+use Rattle.laws.proofs.Lists.{tail_part}
+use Rattle.feed.proofs.Steps.{when_enough, when_short}
+use borrow.Author.Rules.{rules}
+use Rattle.feed.proofs.calls.setup.Goals as goal
+
+pub returns-then-payload-lt2 : goal.returns-then-payload-lt2
+unfolding setup_fed
+returns-then-payload-lt2 c = c.bad.ensures ∙ when_short 2 (length c.args.payload.now) _ _ c.if-payload-lt2.true
+
+pub returns : goal.returns
+unfolding setup_fed byte_at
+returns c =
+    let p = c.args.payload.now in
+    c.begin.ensures ∙ ap (λ (l : List ℕ). begun (setup_of (get_or p 0 0) (get_or p 1 0) 1 l)) (tail_part p 2) ∙ when_enough 2 (length p) _ _ c.if-payload-lt2.false
