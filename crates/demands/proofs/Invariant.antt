@@ -153,10 +153,10 @@ module _ (u : Setup) (l : Listed u) (es : List Event) (v : Picture) (n q : ℕ) 
         let y = h a in
         record {
           settings = refl;
-          picture = rw (y.lines_same, y.waiting-same) o.picture;
-          voices = rw y.sounded-same (same_voices (λ m j _. y.heard m j) w);
-          counter = rw y.made-same o.counter;
-          place = rw y.sounded-same o.place;
+          picture = rw (y.lines_same, y.waiting_same) o.picture;
+          voices = rw y.sounded_same (same_voices (λ m j _. y.heard m j) w);
+          counter = rw y.made_same o.counter;
+          place = rw y.sounded_same o.place;
         }
 
     heard_right : (number said : ℕ) (g : Fingerprint) → number ≡ said
