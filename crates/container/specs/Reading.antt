@@ -1,12 +1,11 @@
 -- Read container (01, What a caller is told): the first refusal in the paper's order, or what the container says.
-use Rattle.std.specs.Prelude.{ℕ, ◌+◌, ◌-◌, ◌/◌, ◌%◌, List, Bool, cond, length, get_or, take, drop, leb, ltb, eqb}
+use Rattle.std.specs.Prelude.{ℕ, ◌+◌, ◌-◌, ◌/◌, ◌%◌, List, cond, length, get_or, take, drop, leb, ltb, eqb}
 use Rattle.laws.specs.Calls.{unless}
 use Rattle.laws.specs.Sums.{sum}
 use Rattle.rates.specs.Rates.{rate_listed}
 use Rattle.container.specs.declared.IdPart.{IdPart}
 use Rattle.container.specs.declared.VideoPart.{VideoPart}
 use Rattle.container.specs.declared.AudioPart.{AudioPart}
-use Rattle.container.specs.declared.Contents.{Contents}
 use Rattle.container.specs.declared.Reading.{Reading}
 use Rattle.container.specs.Contents.{empty_contents}
 use Rattle.container.specs.Parts.{id_part, video_part, audio_part}

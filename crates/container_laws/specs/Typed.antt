@@ -1,5 +1,5 @@
 -- Contents as the types make them: arrays of their length, bytes below 256.
-use Rattle.std.specs.Prelude.{ℕ, ◌<◌, ◌≡◌, List, [], ◌∷◌, length}
+use Rattle.std.specs.Prelude.{◌<◌, ◌≡◌, List, [], ◌∷◌, length}
 use Rattle.laws.specs.Bytes.{Bytes}
 use Rattle.laws.specs.declared.Video.{Video}
 use Rattle.laws.specs.declared.Video.TheVariants.{Absent, One, Two}

@@ -1,3 +1,2 @@
 // Theorems about containers, in proofs/; there is no code here.
 #![tactic(auto)]
-

@@ -1,5 +1,5 @@
 -- A sample's 16 bits: a negative one stands 65,536 too high.
-use Rattle.std.proofs.Common.{◌≡◌, suc, ◌+◌, ◌-◌, ◌^◌, ◌<◌, true, false, T, ℤ, pos, negsuc, ◌+ℤ◌, nat_abs, sym, ap, ◌∙◌, subst, true≢false, arith, w16, w32, Fits, SFits, to_z, of_z, ltb-true}
+use Rattle.std.proofs.Common.{◌≡◌, suc, ◌-◌, ◌^◌, ◌<◌, true, false, T, ℤ, pos, negsuc, ◌+ℤ◌, nat_abs, sym, ap, ◌∙◌, subst, true≢false, arith, w16, w32, Fits, SFits, to_z, of_z, ltb-true}
 use lib.Signed.{mag, lt_z, non_neg}
 use mir.ValLaws.{to_z-of_z}
 use Rattle.sound.specs.Mix.{signed}

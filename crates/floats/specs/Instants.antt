@@ -1,7 +1,6 @@
 -- A sound instant in floating point (02, A3).
 use Rattle.std.specs.Prelude.{ℕ, Bool, false, not, ◌||◌, List, [], ◌∷◌, map, ◌==◌, is_nan, Float}
 use Rattle.sound.specs.Mix.{mixed, pseudo_absolute}
-use Rattle.floats.specs.declared.Five.{Five}
 use Rattle.floats.specs.declared.Instant.{Instant}
 use Rattle.floats.specs.declared.Instant.TheVariants as instant
 use Rattle.floats.specs.Values.{sample_of}

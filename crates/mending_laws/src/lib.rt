@@ -1,3 +1,2 @@
 // Theorems about mending, in proofs/; there is no code here.
 #![tactic(auto)]
-

@@ -1,5 +1,5 @@
 -- The 60 bytes of a line (01, "Video"), and the call that hands them out (01, "What a caller is told").
-use Rattle.std.specs.Prelude.{ℕ, zero, suc, ◌+◌, ◌-◌, ◌*◌, ◌/◌, ◌%◌, Bool, cond, List, [], ◌∷◌, ◌++◌, ltb, eqb, length, get_or}
+use Rattle.std.specs.Prelude.{ℕ, zero, suc, ◌+◌, ◌-◌, ◌*◌, ◌/◌, ◌%◌, List, [], ◌∷◌, ◌++◌, ltb, eqb, length, get_or}
 use Rattle.laws.specs.declared.Done.{Done}
 use Rattle.laws.specs.Calls.{unless, room_number, done_with, out_with}
 use Rattle.sampling.specs.declared.Row.{Row}

@@ -1,3 +1,2 @@
 // Theorems about transport packets, in proofs/; there is no code here.
 #![tactic(auto)]
-

@@ -1,10 +1,8 @@
 -- `container::byte_sum` meets its contract. The loop's invariant: what is summed with what is left is the whole sum, modulo 256.
 use Prim.Native.Nat.{◌+◌, ◌-◌, ◌%◌, ◌≤◌, ◌<◌}
 use mathlib.Core.Path.{◌≡◌}
-use native.Mathlib.Omega.{arith}
 use lib.ListN.{length, drop}
 use Rattle.laws.specs.Sums.{sum}
-use Rattle.laws.proofs.Sums.{sum_step, sum_end}
 use Rattle.container.proofs.byte_sum.Given as goal
 
 abbrev pub invariant-loop-i : goal.invariant-loop-i

@@ -7,7 +7,6 @@ use borrow.Author.Tests.{eq-eqb, ne_eqb}
 use Rattle.container.specs.Reading.{middle, reading}
 use Rattle.container.proofs.Parts.{header_right}
 use Rattle.container.proofs.Passing.{any_counter}
-use borrow.Author.Rules.{rules}
 use Rattle.container.proofs.container_number.Goals as goal
 use Rattle.container.proofs.container_number.Goals.{Else-number-ne0}
 

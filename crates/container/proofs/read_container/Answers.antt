@@ -1,5 +1,5 @@
 -- `container::read_container` meets its contract.
-use Prim.Native.Nat.{ℕ, ◌-◌, ◌≤◌}
+use Prim.Native.Nat.{◌-◌, ◌≤◌}
 use mathlib.Core.Path.{◌≡◌, sym, ◌∙◌}
 use native.Mathlib.Omega.{arith}
 use lib.ListN.{length}
@@ -7,7 +7,6 @@ use borrow.Author.Tests.{eq-eqb}
 use Rattle.laws.proofs.Tests.{tests}
 use Rattle.container.specs.Reading.{middle, reading}
 use Rattle.container.proofs.Parts.{header_right}
-use borrow.Author.Rules.{rules}
 use Rattle.container.proofs.read_container.Goals as goal
 use Rattle.container.proofs.read_container.Goals.{Else-number-ne0}
 

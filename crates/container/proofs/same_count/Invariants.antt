@@ -1,19 +1,8 @@
 -- `container::same_count` meets its contract. The loop's invariant: the answer is that for the fingerprints left.
-use Prim.Native.Nat.{ℕ, ◌+◌, ◌-◌, ◌≤◌}
-use mathlib.Core.Path.{◌≡◌, ap, sym, ◌∙◌}
-use mathlib.Core.List.{List, []}
-use mathlib.Core.Bool.{◌&&◌}
-use native.Mathlib.Omega.{arith}
-use native.Mathlib.Nat.{sub-zero}
-use borrow.Author.Rules.{rules}
-use borrow.Author.Tests.{eq-eqb, ne_eqb}
-use lib.Dec.{eqb}
-use lib.ListN.{length, get_or, take, drop}
-use Rattle.laws.proofs.Lists.{get_d_any}
-use Rattle.laws.proofs.Tests.{and_stops, and_goes}
-use Rattle.container.specs.declared.Print.{Print}
-use Rattle.container.specs.Contents.{blank_print, all_carry, same_count}
-use Rattle.container.proofs.Readable.{same_first, carry_step, carry_end}
+use Prim.Native.Nat.{◌-◌, ◌≤◌}
+use mathlib.Core.Path.{◌≡◌}
+use lib.ListN.{take, drop}
+use Rattle.container.specs.Contents.{all_carry, same_count}
 use Rattle.container.proofs.same_count.Given as goal
 
 abbrev pub invariant-loop-k : goal.invariant-loop-k

@@ -1,8 +1,7 @@
 -- `fingerprint::first_bytes` meets its contract.
-use mathlib.Core.Path.{◌≡◌, sym, ◌∙◌}
+use mathlib.Core.Path.{◌≡◌, ◌∙◌}
 use native.Mathlib.Omega.{arith}
 use lib.ListN.{length}
-use lib.Seq.{length-take-le}
 use Rattle.fingerprint.proofs.Bytes.{first_is}
 use borrow.Author.Rules.{rules}
 use Rattle.fingerprint.proofs.first_bytes.Goals as goal

@@ -1,15 +1,14 @@
-use Prim.Native.Nat.{ℕ, ◌+◌, ◌*◌, ◌-◌, ◌≤◌}
+use Prim.Native.Nat.{ℕ, ◌+◌, ◌*◌, ◌≤◌}
 use mathlib.Core.Path.{◌≡◌, refl, ap, ◌∙◌}
 use mathlib.Core.List.{◌∷◌}
 use native.Mathlib.Nat.{mul-le-mul_right}
 use native.Mathlib.Numerals.{add-one}
 use native.Mathlib.Omega.{arith}
-use borrow.Author.Rules.{rules}
 use lib.ListN.{length}
 use Rattle.sound.specs.Mix.{instant_bytes, instant_value}
 use Rattle.fingerprint.specs.State.{after, values_at, values_of, heard_of}
 use Rattle.fingerprint.specs.Parts.{with_filters_of}
-use Rattle.fingerprint.proofs.Counts.{half_instants, instants_fit}
+use Rattle.fingerprint.proofs.Counts.{instants_fit}
 use Rattle.fingerprint.proofs.Steps.{kept_on, run_on}
 use Rattle.fingerprint.proofs.heard.Goals as goal
 use Rattle.fingerprint.proofs.heard.Goals.{At-loop-i}

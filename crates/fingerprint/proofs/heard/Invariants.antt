@@ -1,17 +1,8 @@
 -- `fingerprint::heard` meets its contract. The loop's invariant: rest, the filters and the wait together are the fingerprint after the first i instants.
-use Prim.Native.Nat.{ℕ, ◌+◌, ◌*◌, ◌-◌, ◌≤◌}
-use mathlib.Core.Path.{◌≡◌, refl, ap, ◌∙◌}
-use mathlib.Core.List.{◌∷◌}
-use native.Mathlib.Nat.{mul-le-mul_right}
-use native.Mathlib.Numerals.{add-one}
-use native.Mathlib.Omega.{arith}
-use borrow.Author.Rules.{rules}
-use lib.ListN.{length}
-use Rattle.sound.specs.Mix.{instant_bytes, instant_value}
-use Rattle.fingerprint.specs.State.{after, values_at, values_of, heard_of}
+use Prim.Native.Nat.{◌*◌, ◌-◌, ◌≤◌}
+use mathlib.Core.Path.{◌≡◌}
+use Rattle.fingerprint.specs.State.{after, values_at}
 use Rattle.fingerprint.specs.Parts.{with_filters_of}
-use Rattle.fingerprint.proofs.Counts.{half_instants, instants_fit}
-use Rattle.fingerprint.proofs.Steps.{kept_on, run_on}
 use Rattle.fingerprint.proofs.heard.Given as goal
 
 abbrev pub invariant-loop-i : goal.invariant-loop-i

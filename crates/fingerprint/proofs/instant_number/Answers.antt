@@ -7,7 +7,6 @@ use Rattle.floats.specs.declared.Instant.{Instant}
 use Rattle.floats.specs.Instants.{kind_of, has_nan}
 use Rattle.fingerprint.specs.declared.Fingerprint.{Fingerprint}
 use Rattle.fingerprint.specs.State.{store_number, instant_number}
-use borrow.Author.Rules.{rules}
 use Rattle.fingerprint.proofs.instant_number.Goals as goal
 
 -- its numbers, in their order
@@ -15,9 +14,11 @@ module _ (d : ℕ) (f : Fingerprint) (i : Instant) where
   nan_14 : has_nan i ≡ true → 14 ≡ instant_number d f i
   unfolding instant_number
   nan_14 e = rw e
+
   kind_14 : (kind_of i ≡ f.mix → ⊥) → 14 ≡ instant_number d f i
   unfolding instant_number
   kind_14 e = rw (ne_eqb (kind_of i) f.mix e, or-true (has_nan i))
+
   taken : has_nan i ≡ false → kind_of i ≡ f.mix → store_number f.held d f.wait 1 ≡ instant_number d f i
   unfolding instant_number
   taken e k = rw (e, eq-eqb (kind_of i) f.mix k)

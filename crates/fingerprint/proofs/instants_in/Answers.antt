@@ -3,7 +3,6 @@ use Prim.Native.Nat.{◌/◌}
 use mathlib.Core.Path.{sym, ap, ◌∙◌}
 use native.Mathlib.Nat.{div-zero}
 use Rattle.fingerprint.specs.State.{instants}
-use borrow.Author.Rules.{rules}
 use Rattle.fingerprint.proofs.instants_in.Goals as goal
 
 pub returns-then-size-eq0 : goal.returns-then-size-eq0

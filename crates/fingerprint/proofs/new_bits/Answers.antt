@@ -5,7 +5,6 @@ use native.Mathlib.Nat.{div-le_self}
 use native.Mathlib.Omega.{arith}
 use Rattle.fingerprint.specs.State.{new_bits}
 use Rattle.fingerprint.proofs.Counts.{bits_none, bits_some, bits_rest}
-use borrow.Author.Rules.{rules}
 use Rattle.fingerprint.proofs.new_bits.Goals as goal
 
 pub returns-then-n-pass : goal.returns-then-n-pass

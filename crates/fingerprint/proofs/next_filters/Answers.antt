@@ -1,6 +1,5 @@
 -- `fingerprint::next_filters` meets its contract.
 use Rattle.fingerprint.specs.Parts.{next_filters}
-use borrow.Author.Rules.{rules}
 use Rattle.fingerprint.proofs.next_filters.Goals as goal
 
 pub returns-then-v : goal.returns-then-v

@@ -6,7 +6,6 @@ use native.Mathlib.Omega.{arith}
 use lib.Pow.{shl_exact}
 use borrow.Author.Tests.{le-ltb, lt-ltb}
 use Rattle.fingerprint.specs.State.{with_bit, holding, pushed_of}
-use borrow.Author.Rules.{rules}
 use Rattle.fingerprint.proofs.pushed.Goals as goal
 
 mask : (h : ℕ) → 1 * 2 ^ (h % 8) % 256 ≡ 2 ^ (h % 8)

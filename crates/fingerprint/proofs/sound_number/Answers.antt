@@ -1,9 +1,7 @@
 -- `fingerprint::sound_number` meets its contract.
 use mathlib.Core.Path.{sym, ap, ◌∙◌}
-use borrow.Author.Tests.{not-true, not-false}
 use Rattle.fingerprint.specs.State.{store_number}
 use Rattle.fingerprint.proofs.Counts.{number_8, number_whole}
-use borrow.Author.Rules.{rules}
 use Rattle.fingerprint.proofs.sound_number.Goals as goal
 
 pub returns-then-not-whole_instants : goal.returns-then-not-whole_instants

@@ -7,7 +7,6 @@ use Rattle.fingerprint.specs.declared.Filters.{Filters}
 use Rattle.fingerprint.specs.State.{pushed_of}
 use Rattle.fingerprint.specs.Parts.{filters_of, with_filters_of}
 use Rattle.fingerprint.proofs.Steps.{step_kept, step_passed}
-use borrow.Author.Rules.{rules}
 use Rattle.fingerprint.proofs.step.Goals as goal
 
 pub returns-then-wait-eq0 : goal.returns-then-wait-eq0

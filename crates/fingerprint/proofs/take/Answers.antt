@@ -3,7 +3,6 @@ use mathlib.Core.Path.{sym}
 use native.Mathlib.Omega.{arith}
 use Rattle.fingerprint.specs.State.{holding, without}
 use Rattle.fingerprint.proofs.Taking.{take_many, take_short, can_take_held, take_is}
-use borrow.Author.Rules.{rules}
 use Rattle.fingerprint.proofs.take.Goals as goal
 
 pub returns-then-n-gt5 : goal.returns-then-n-gt5

@@ -1,13 +1,8 @@
 -- `fingerprint::through_as` meets its contract.
-use Prim.Native.Nat.{ℕ, ◌+◌, ◌*◌, ◌-◌, ◌≤◌}
-use mathlib.Core.Path.{◌≡◌, refl, ap, ap₂, ◌∙◌}
-use native.Mathlib.Nat.{mul-le-mul_right}
-use native.Mathlib.Numerals.{add-one}
-use native.Mathlib.Omega.{arith}
-use borrow.Author.Rules.{rules}
-use Rattle.sound.specs.Mix.{instant_value}
+use Prim.Native.Nat.{◌+◌, ◌*◌, ◌-◌, ◌≤◌}
+use mathlib.Core.Path.{◌≡◌}
 use Rattle.fingerprint.specs.State.{values_at}
-use Rattle.fingerprint.specs.Parts.{next_filters, through_of}
+use Rattle.fingerprint.specs.Parts.{through_of}
 use Rattle.fingerprint.proofs.through_as.Given as goal
 
 abbrev pub invariant-loop-i : goal.invariant-loop-i

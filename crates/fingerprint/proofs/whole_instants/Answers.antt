@@ -4,7 +4,6 @@ use mathlib.Core.Path.{sym, ap, ◌∙◌}
 use native.Mathlib.Nat.{mod-zero}
 use lib.Dec.{eqb}
 use Rattle.fingerprint.specs.State.{whole_instants}
-use borrow.Author.Rules.{rules}
 use Rattle.fingerprint.proofs.whole_instants.Goals as goal
 
 pub returns-then-size-eq0 : goal.returns-then-size-eq0

@@ -1,6 +1,6 @@
 -- `flat::flatten` meets its contract.
-use mathlib.Core.Path.{◌≡◌, refl, sym, ◌∙◌}
-use lib.ListN.{length, length-map, replicate}
+use mathlib.Core.Path.{◌≡◌, refl}
+use lib.ListN.{length, replicate}
 use Rattle.flat.proofs.Places.{flat_put}
 use borrow.Author.Rules.{rules}
 use Rattle.flat.proofs.flatten.Goals as goal

@@ -7,7 +7,6 @@ use lib.ListN.{length, take, drop, replicate, length-drop}
 use lib.Seq.{length-take-le}
 use Rattle.flat.specs.Unflat.{print_of}
 use Rattle.flat.proofs.Places.{sets_whole}
-use borrow.Author.Rules.{rules}
 use Rattle.flat.proofs.print_of.Goals as goal
 
 pub returns : goal.returns

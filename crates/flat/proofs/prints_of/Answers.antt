@@ -1,9 +1,8 @@
-use Prim.Native.Nat.{ℕ, ◌-◌, ◌*◌, ◌≤◌}
+use Prim.Native.Nat.{ℕ, ◌*◌}
 use mathlib.Core.Path.{◌≡◌, ap, ◌∙◌}
 use mathlib.Core.List.{List, ◌++◌, append-nil}
 use native.Mathlib.Omega.{arith}
-use borrow.Author.Rules.{rules}
-use lib.ListN.{set, take, drop, replicate, length-drop}
+use lib.ListN.{set, take, drop, replicate}
 use lib.Seq.{take_all}
 use Rattle.container.specs.declared.Print.{Print}
 use Rattle.container.specs.Contents.{blank_print}

@@ -1,9 +1,9 @@
 -- `flat::put_print` meets its contract.
-use mathlib.Core.Path.{◌≡◌, refl, sym, ◌∙◌}
+use mathlib.Core.Path.{◌≡◌, refl}
 use mathlib.Core.List.{[], ◌∷◌}
 use Prim.Native.Nat.{◌+◌}
 use native.Mathlib.Omega.{arith}
-use lib.ListN.{length, length-map}
+use lib.ListN.{length}
 use Rattle.laws.proofs.Lists.{sets_then}
 use Rattle.flat.specs.Flat.{flat_print}
 use borrow.Author.Rules.{rules}

@@ -1,12 +1,10 @@
-use Prim.Native.Nat.{ℕ, ◌+◌, ◌-◌, ◌*◌, ◌≤◌, ◌<◌}
-use mathlib.Core.Path.{◌≡◌, refl, ap, sym, ◌∙◌}
+use Prim.Native.Nat.{ℕ, ◌+◌, ◌*◌, ◌<◌}
+use mathlib.Core.Path.{◌≡◌, ap, sym, ◌∙◌}
 use mathlib.Core.List.{List, []}
 use native.Mathlib.Omega.{arith}
-use borrow.Author.Rules.{rules}
-use lib.ListN.{length, drop}
+use lib.ListN.{length}
 use lib.Seq.{sets}
 use Rattle.container.specs.declared.Print.{Print}
-use Rattle.flat.specs.Flat.{flat_prints}
 use Rattle.flat.proofs.Places.{length_next, sets_next, flat_end}
 use Rattle.flat.proofs.put_prints.Goals as goal
 use Rattle.flat.proofs.put_prints.Goals.{Start}

@@ -1,14 +1,9 @@
 -- `flat::put_prints` meets its contract. The loop's invariant: the fingerprints still to be stored, stored into out as it now is, give the promised bytes.
-use Prim.Native.Nat.{ℕ, ◌+◌, ◌-◌, ◌*◌, ◌≤◌, ◌<◌}
-use mathlib.Core.Path.{◌≡◌, refl, ap, sym, ◌∙◌}
-use mathlib.Core.List.{List, []}
-use native.Mathlib.Omega.{arith}
-use borrow.Author.Rules.{rules}
+use Prim.Native.Nat.{◌+◌, ◌-◌, ◌*◌, ◌≤◌}
+use mathlib.Core.Path.{◌≡◌}
 use lib.ListN.{length, drop}
 use lib.Seq.{sets}
-use Rattle.container.specs.declared.Print.{Print}
 use Rattle.flat.specs.Flat.{flat_prints}
-use Rattle.flat.proofs.Places.{length_next, sets_next, flat_end}
 use Rattle.flat.proofs.put_prints.Given as goal
 
 abbrev pub invariant-loop-k : goal.invariant-loop-k

@@ -4,7 +4,6 @@ use mathlib.Core.Path.{◌≡◌, sym, ap, ◌∙◌}
 use mathlib.Core.List.{List}
 use mathlib.Core.Bool.{true, false}
 use native.Mathlib.Omega.{arith}
-use borrow.Author.Tests.{not-true, not-false}
 use lib.ListN.{length, take, drop, replicate, length-drop}
 use lib.Seq.{length-take-le}
 use Rattle.laws.proofs.Tests.{tests}
@@ -13,7 +12,6 @@ use Rattle.laws.proofs.Lists.{tail_part}
 use Rattle.flat.specs.declared.Values.{Values}
 use Rattle.flat.specs.Unflat.{video_at, prints_of, unflat}
 use Rattle.flat.proofs.Places.{sets_whole, unflat_is, contents_is}
-use borrow.Author.Rules.{rules}
 use Rattle.flat.proofs.unflatten.Goals as goal
 use Rattle.flat.proofs.unflatten.Goals.{After-video_of-values, Else-not-ok, Start, Then-not-ok}
 

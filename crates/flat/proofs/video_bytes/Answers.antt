@@ -1,7 +1,6 @@
 -- `flat::video_bytes` meets its contract.
 use mathlib.Core.Path.{sym, ap}
 use Rattle.flat.specs.Flat.{flat_video}
-use borrow.Author.Rules.{rules}
 use Rattle.flat.proofs.video_bytes.Goals as goal
 
 pub returns-in-Absent : goal.returns-in-Absent

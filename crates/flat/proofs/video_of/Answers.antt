@@ -1,7 +1,6 @@
 -- `flat::video_of` meets its contract: each answer by the tests that led to it.
 use Rattle.laws.proofs.Tests.{tests}
 use Rattle.flat.specs.Unflat.{video_of}
-use borrow.Author.Rules.{rules}
 use Rattle.flat.proofs.video_of.Goals as goal
 
 pub returns-then-n-eq2 : goal.returns-then-n-eq2

@@ -1,5 +1,5 @@
 -- `floats::bits_of` meets its contract.
-use Rattle.std.proofs.Common.{◌≡◌, ◌^◌, ◌<◌, ℤ, sym, ◌∙◌, subst, w32, to_z, of_z, rules}
+use Rattle.std.proofs.Common.{◌≡◌, ◌^◌, ◌<◌, ℤ, sym, ◌∙◌, subst, w32, to_z, of_z}
 use lib.Signed.{mag}
 use lib.Ieee.{Float}
 use Rattle.floats.specs.Values.{sample_of}

@@ -5,7 +5,6 @@ use lib.Ieee.{Float, binary32, of_bits, of_int, lt, mul, to_signed, in_float}
 use mir.ValLaws.{to_z-of_z}
 use Rattle.floats.specs.Values.{sample_of}
 use Rattle.floats.proofs.Scaled.{scale, Middle, middle}
-use Rattle.std.proofs.num.truncating_f32_to_i64.Reads as truncating_f32_to_i64_reads
 use Rattle.floats.proofs.floored.Goals as goal
 use Rattle.floats.proofs.floored.Goals.{Start}
 
@@ -25,26 +24,36 @@ wide z h = record { sfits = omega arith }
 module _ (x : Float) (M : Middle x) (z : ℤ) (e : z ≡ to_signed 63 (mul binary32 x scale)) where
   few : mag z < 2 ^ 15
   few = subst (λ (w : ℤ). mag w < 2 ^ 15) (sym e) M.few
+
   read : to_z w64 (of_z w64 z) ≡ z
   read = to_z-of_z w64 z (wide z few)
+
   abbrev got : ℤ
   got = to_z w64 (of_z w64 z)
+
   got_is : got ≡ to_signed 63 (mul binary32 x scale)
   got_is = read ∙ e
+
   got_few : mag got < 2 ^ 15
   got_few = subst (λ (w : ℤ). mag w < 2 ^ 15) (sym read) few
+
   module _ (b : Bool) (t : lt (mul binary32 x scale) (of_int binary32 got) ≡ b) where
     tested : lt (mul binary32 x scale) (of_int binary32 (to_signed 63 (mul binary32 x scale))) ≡ b
     tested = ap (λ (w : ℤ). lt (mul binary32 x scale) (of_int binary32 w)) (sym got_is) ∙ t
+
   module _ (t : lt (mul binary32 x scale) (of_int binary32 got) ≡ true) where
     less_few : mag (got -ℤ pos 1) < 2 ^ 15
     less_few = subst (λ (w : ℤ). mag (w -ℤ pos 1) < 2 ^ 15) (sym got_is) (M.few_below (tested true t))
+
     less_read : to_z w64 (of_z w64 (got -ℤ pos 1)) ≡ got -ℤ pos 1
     less_read = to_z-of_z w64 (got -ℤ pos 1) (wide (got -ℤ pos 1) less_few)
+
     less_narrow : SFits w32 (to_z w64 (of_z w64 (got -ℤ pos 1)))
     less_narrow = subst (SFits w32) (sym less_read) (narrow (got -ℤ pos 1) less_few)
+
     less_is : to_z w32 (of_z w32 (to_z w64 (of_z w64 (got -ℤ pos 1)))) ≡ sample_of x
     less_is = to_z-of_z w32 (to_z w64 (of_z w64 (got -ℤ pos 1))) less_narrow ∙ less_read ∙ ap (λ (w : ℤ). w -ℤ pos 1) got_is ∙ M.one_below (tested true t)
+
   same_is : lt (mul binary32 x scale) (of_int binary32 got) ≡ false → to_z w32 (of_z w32 got) ≡ sample_of x
   same_is t = to_z-of_z w32 got (narrow got got_few) ∙ got_is ∙ M.just (tested false t)
 

@@ -1,5 +1,5 @@
 -- `floats::has_nan` meets its contract: in each arm the instant is that case of some values.
-use Rattle.std.proofs.Common.{◌≡◌, Bool, true, false, ◌||◌, sym, refl, ap, ◌∙◌, ap₂, rules}
+use Rattle.std.proofs.Common.{◌≡◌, Bool, true, false, ◌||◌, sym, refl, ap, ◌∙◌, ap₂}
 use lib.Ieee.{is_nan}
 use Rattle.floats.specs.declared.Five.{Five}
 use Rattle.floats.specs.Instants.{has_nan}

@@ -1,5 +1,5 @@
 -- `floats::sample_of` meets its contract, by the tests.
-use Rattle.std.proofs.Common.{◌≡◌, T, pos, sym, ap, subst, rules}
+use Rattle.std.proofs.Common.{◌≡◌, T, pos, sym, ap, subst}
 use lib.Ieee.{Float, nan, of_bits, neg}
 use lib.Ieee.Compare.{differs_from_itself}
 use Rattle.floats.specs.Values.{sample_of}

@@ -1,5 +1,5 @@
 -- `floats::sixteen_bits` meets its contract.
-use Rattle.floats.proofs.Sixteen.{up_fits, up_cast, up_signed, low_cast, low_signed}
+use Rattle.floats.proofs.Sixteen.{up_signed, low_signed}
 use Rattle.floats.proofs.sixteen_bits.Goals as goal
 
 pub returns-then-s-lt0 : goal.returns-then-s-lt0

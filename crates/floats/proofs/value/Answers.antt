@@ -1,5 +1,5 @@
 -- `floats::value` meets its contract: in each arm the instant is that case of some values, and the samples are theirs.
-use Rattle.std.proofs.Common.{List, [], ◌∷◌, ℤ, sym, refl, ap, ◌∙◌, ap₂, rules}
+use Rattle.std.proofs.Common.{List, [], ◌∷◌, ℤ, sym, refl, ap, ◌∙◌, ap₂}
 use Rattle.sound.specs.Mix.{mixed, pseudo_absolute}
 use Rattle.sound.proofs.Meaning.{mono_mixed}
 use Rattle.floats.specs.Instants.{float_value}

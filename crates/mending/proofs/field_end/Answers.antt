@@ -2,7 +2,6 @@
 use native.Mathlib.Omega.{arith}
 use Rattle.mending.specs.Fields.{field_size}
 use Rattle.mending.proofs.Gaps.{pair_behind}
-use borrow.Author.Rules.{rules}
 use Rattle.mending.proofs.field_end.Goals as goal
 
 pub returns : goal.returns

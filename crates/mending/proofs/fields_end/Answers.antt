@@ -1,14 +1,11 @@
-use Prim.Native.Nat.{◌-◌}
 use mathlib.Core.Path.{◌≡◌, sym, ap, ◌∙◌}
 use native.Mathlib.Omega.{arith}
-use borrow.Author.Tests.{not-true, not-false}
-use lib.ListN.{length, drop}
+use lib.ListN.{drop}
 use Rattle.laws.proofs.Lists.{tail_part}
 use Rattle.mending.specs.Fields.{acceptable}
 use Rattle.mending.specs.Places.{Stretch}
 use Rattle.mending.proofs.Gaps.{none_behind}
 use Rattle.mending.proofs.Walks.{one_field, stretch_on}
-use borrow.Author.Rules.{rules}
 use Rattle.mending.proofs.fields_end.Goals as goal
 use Rattle.mending.proofs.fields_end.Goals.{After-field_end-end-in-loop-end}
 

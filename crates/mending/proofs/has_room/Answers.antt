@@ -1,13 +1,11 @@
 -- `mending::has_room` meets its contract.
-use Prim.Native.Nat.{ℕ, ◌+◌, ◌≤◌}
-use mathlib.Core.Path.{sym, ap}
+use Prim.Native.Nat.{◌+◌, ◌≤◌}
+use mathlib.Core.Path.{sym}
 use native.Mathlib.Omega.{arith}
 use borrow.Author.Tests.{le-leb}
-use lib.Dec.{leb}
 use lib.ListN.{length, drop, length-drop}
 use Rattle.mending.specs.Mending.{mended}
 use Rattle.mending.proofs.Walks.{mended_size}
-use borrow.Author.Rules.{rules}
 use Rattle.mending.proofs.has_room.Goals as goal
 use Rattle.mending.proofs.has_room.Goals.{Start}
 

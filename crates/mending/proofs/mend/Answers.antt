@@ -3,7 +3,7 @@ use Prim.Native.Nat.{ℕ, ◌+◌, ◌-◌, ◌≤◌, ◌<◌}
 use mathlib.Core.Path.{◌≡◌, sym, ap, ◌∙◌}
 use mathlib.Core.List.{List, ◌++◌}
 use native.Mathlib.Omega.{arith}
-use borrow.Author.Tests.{leb-true, leb-false, not-true, not-false}
+use borrow.Author.Tests.{leb-true, leb-false}
 use lib.ListN.{length, take, drop, length-append}
 use lib.Seq.{sets}
 use Rattle.laws.proofs.Lists.{sets_over, sets_then}
@@ -13,8 +13,7 @@ use Rattle.mending.specs.Mending.{mended, recording_number, mend_number, mend_do
 use Rattle.mending.specs.Places.{gap, Stretch, Before}
 use Rattle.mending.proofs.Gaps.{gap_within, gap_at}
 use Rattle.mending.proofs.Numbers.{too_long, no_field, a_field}
-use Rattle.mending.proofs.Walks.{mended_over, mended_size, stretch_over, stretch_size, next_before}
-use borrow.Author.Rules.{rules}
+use Rattle.mending.proofs.Walks.{mended_over, stretch_over, stretch_size, next_before}
 use Rattle.mending.proofs.mend.Goals as goal
 use Rattle.mending.proofs.mend.Goals.{After-place_behind-next, Else-first-recording, Start}
 

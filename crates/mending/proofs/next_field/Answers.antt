@@ -1,12 +1,9 @@
-use Prim.Native.Nat.{◌+◌, ◌-◌, ◌≤◌}
-use mathlib.Core.Path.{◌≡◌, refl, sym, ap, ◌∙◌}
+use mathlib.Core.Path.{◌≡◌, sym, ap, ◌∙◌}
 use native.Mathlib.Omega.{arith}
-use lib.ListN.{length, drop}
+use lib.ListN.{drop}
 use Rattle.laws.proofs.Lists.{tail_part}
 use Rattle.mending.specs.Fields.{acceptable}
-use Rattle.mending.specs.Places.{gap}
 use Rattle.mending.proofs.Gaps.{gap_none, gap_step, gap_end}
-use borrow.Author.Rules.{rules}
 use Rattle.mending.proofs.next_field.Goals as goal
 use Rattle.mending.proofs.next_field.Goals.{After-starts_field}
 

@@ -1,13 +1,8 @@
 -- `mending::next_field` meets its contract. The loop's invariant: the place asked for is the next one from here on.
 use Prim.Native.Nat.{◌+◌, ◌-◌, ◌≤◌}
-use mathlib.Core.Path.{◌≡◌, refl, sym, ap, ◌∙◌}
-use native.Mathlib.Omega.{arith}
+use mathlib.Core.Path.{◌≡◌}
 use lib.ListN.{length, drop}
-use Rattle.laws.proofs.Lists.{tail_part}
-use Rattle.mending.specs.Fields.{acceptable}
 use Rattle.mending.specs.Places.{gap}
-use Rattle.mending.proofs.Gaps.{gap_none, gap_step, gap_end}
-use borrow.Author.Rules.{rules}
 use Rattle.mending.proofs.next_field.Given as goal
 
 abbrev pub invariant-loop-at : goal.invariant-loop-at

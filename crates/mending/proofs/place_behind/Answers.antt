@@ -2,7 +2,6 @@
 use mathlib.Core.Path.{sym, ◌∙◌}
 use native.Mathlib.Omega.{arith}
 use Rattle.mending.proofs.Gaps.{gap_end, gap_step}
-use borrow.Author.Rules.{rules}
 use Rattle.mending.proofs.place_behind.Goals as goal
 
 pub returns-then-recording-at : goal.returns-then-recording-at

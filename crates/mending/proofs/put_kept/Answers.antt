@@ -1,5 +1,5 @@
-use Prim.Native.Nat.{ℕ, ◌-◌, ◌≤◌}
-use mathlib.Core.Path.{◌≡◌, refl, ap, ◌∙◌}
+use Prim.Native.Nat.{ℕ, ◌-◌}
+use mathlib.Core.Path.{ap, ◌∙◌}
 use mathlib.Core.List.{List}
 use native.Mathlib.Omega.{arith}
 use lib.ListN.{length, take, drop}
@@ -7,8 +7,7 @@ use lib.Seq.{length-sets}
 use Rattle.mending.specs.Mending.{mended}
 use Rattle.mending.specs.Places.{Stretch}
 use Rattle.mending.proofs.Gaps.{lands_at}
-use Rattle.mending.proofs.Walks.{Putting, putting_next, putting_last}
-use borrow.Author.Rules.{rules}
+use Rattle.mending.proofs.Walks.{putting_next, putting_last}
 use Rattle.mending.proofs.put_kept.Goals as goal
 use Rattle.mending.proofs.put_kept.Goals.{After-fields_end-end}
 

@@ -1,15 +1,9 @@
 -- `mending::put_kept` meets its contract. The loop's invariant: with what is kept from this place on put behind what was put, all of it stands.
-use Prim.Native.Nat.{ℕ, ◌-◌, ◌≤◌}
-use mathlib.Core.Path.{◌≡◌, refl, ap, ◌∙◌}
-use mathlib.Core.List.{List}
-use native.Mathlib.Omega.{arith}
-use lib.ListN.{length, take, drop}
-use lib.Seq.{length-sets}
+use Prim.Native.Nat.{◌-◌, ◌≤◌}
+use mathlib.Core.Path.{◌≡◌}
+use lib.ListN.{length, drop}
 use Rattle.mending.specs.Mending.{mended}
-use Rattle.mending.specs.Places.{Stretch}
-use Rattle.mending.proofs.Gaps.{lands_at}
-use Rattle.mending.proofs.Walks.{Putting, putting_next, putting_last}
-use borrow.Author.Rules.{rules}
+use Rattle.mending.proofs.Walks.{Putting}
 use Rattle.mending.proofs.put_kept.Given as goal
 
 abbrev pub invariant-loop-at : goal.invariant-loop-at

@@ -9,7 +9,6 @@ use Rattle.records.specs.Records.{byte_at, pair_at}
 use Rattle.container.specs.Reading.{reading}
 use Rattle.mending.specs.Fields.{field_size, container_in}
 use Rattle.mending.proofs.Gaps.{other_tag, not_whole, by_container}
-use borrow.Author.Rules.{rules}
 use Rattle.mending.proofs.starts_field.Goals as goal
 use Rattle.mending.proofs.starts_field.Goals.{Start}
 

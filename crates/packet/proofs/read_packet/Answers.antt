@@ -13,7 +13,6 @@ use Rattle.packet.specs.Words.{low, words_of}
 use Rattle.packet.specs.Reading.{user_words, frame_number, user_bytes, inner_number, read_number, read_done, read_out}
 use Rattle.packet.proofs.TenBits.{words_part}
 use Rattle.packet.proofs.Passed.{count_byte, passed_size, length_user_bytes}
-use borrow.Author.Rules.{rules}
 use Rattle.packet.proofs.read_packet.Goals as goal
 use Rattle.packet.proofs.read_packet.Goals.{After-container_number-number, After-count_of-n, After-low_bytes, Else-frame-ne0, Start}
 

@@ -9,7 +9,6 @@ use Rattle.container.specs.Reading.{reading}
 use Rattle.container_laws.proofs.Container.{accepted_size}
 use Rattle.packet.specs.Writing.{packet_bytes, write_number, write_done, write_out}
 use Rattle.packet.proofs.TenBits.{length_packet}
-use borrow.Author.Rules.{rules}
 use Rattle.packet.proofs.write_packet.Goals as goal
 use Rattle.packet.proofs.write_packet.Goals.{Else-number-ne0, Start}
 

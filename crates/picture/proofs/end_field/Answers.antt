@@ -1,5 +1,4 @@
 -- `picture::end_field` meets its contract.
-use borrow.Author.Rules.{rules}
 use Rattle.picture.specs.Pictures.{field_ended}
 use Rattle.picture.proofs.end_field.Goals as goal
 

@@ -1,5 +1,4 @@
 -- `picture::frame_after` meets its contract.
-use borrow.Author.Rules.{rules}
 use borrow.Author.Tests.{eq-eqb, ne_eqb}
 use Rattle.picture.specs.Pictures.{frame_after}
 use Rattle.picture.proofs.frame_after.Goals as goal

@@ -1,5 +1,4 @@
 -- `picture::fresh` meets its contract.
-use borrow.Author.Rules.{rules}
 use Rattle.picture.specs.Pictures.{fresh_picture}
 use Rattle.picture.proofs.fresh.Goals as goal
 

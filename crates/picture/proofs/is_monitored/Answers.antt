@@ -1,7 +1,6 @@
 -- `picture::is_monitored` meets its contract.
 use Prim.Native.Nat.{◌<◌}
 use native.Mathlib.Omega.{arith}
-use borrow.Author.Rules.{rules}
 use borrow.Author.Tests.{lt-ltb, le-ltb}
 use Rattle.sampling.proofs.Table.{listed}
 use Rattle.picture.specs.Lines.{is_monitored}

@@ -1,5 +1,4 @@
 -- `picture::restart` meets its contract.
-use borrow.Author.Rules.{rules}
 use Rattle.picture.specs.Pictures.{restarted}
 use Rattle.picture.proofs.restart.Goals as goal
 

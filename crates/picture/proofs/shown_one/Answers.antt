@@ -1,5 +1,4 @@
 -- `picture::shown_one` meets its contract.
-use borrow.Author.Rules.{rules}
 use Rattle.picture.specs.Pictures.{shown_one}
 use Rattle.picture.proofs.shown_one.Goals as goal
 

@@ -1,5 +1,4 @@
 -- `picture::shown_two` meets its contract.
-use borrow.Author.Rules.{rules}
 use Rattle.picture.specs.Pictures.{shown_two}
 use Rattle.picture.proofs.shown_two.Goals as goal
 

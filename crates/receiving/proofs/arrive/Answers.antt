@@ -11,7 +11,6 @@ use Rattle.receiving.specs.Slots.{is_held}
 use Rattle.receiving.specs.Numbers.{place_number}
 use Rattle.receiving.specs.Receiver.{slot_at, distance_of, arriving, holding}
 use Rattle.receiving.proofs.Calls.{place_free, unread, placed, refused_arrival, taken_in}
-use borrow.Author.Rules.{rules}
 use Rattle.receiving.proofs.arrive.Goals as goal
 use Rattle.receiving.proofs.arrive.Goals.{After-place_number-number, Start}
 

@@ -1,7 +1,7 @@
 -- `receiving::container_size` meets its contract.
-use mathlib.Core.Path.{◌≡◌, sym, ◌∙◌}
+use mathlib.Core.Path.{◌≡◌, sym}
 use native.Mathlib.Omega.{arith}
-use lib.ListN.{length, length-map}
+use lib.ListN.{length}
 use lib.Seq.{length-take-le}
 use Rattle.receiving.specs.Slots.{container_in}
 use borrow.Author.Rules.{rules}

@@ -1,7 +1,6 @@
 -- `receiving::distance` meets its contract.
 use native.Mathlib.Omega.{arith}
 use Rattle.receiving.specs.Numbers.{ahead}
-use borrow.Author.Rules.{rules}
 use Rattle.receiving.proofs.distance.Goals as goal
 
 pub returns : goal.returns

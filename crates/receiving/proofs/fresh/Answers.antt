@@ -1,6 +1,5 @@
 -- `receiving::fresh` meets its contract.
 use Rattle.receiving.specs.Receiver.{fresh_of}
-use borrow.Author.Rules.{rules}
 use Rattle.receiving.proofs.fresh.Goals as goal
 
 pub returns : goal.returns

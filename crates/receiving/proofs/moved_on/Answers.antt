@@ -1,8 +1,7 @@
 -- `receiving::moved_on` meets its contract.
 use Prim.Native.Nat.{◌+◌, ◌%◌}
-use mathlib.Core.Path.{sym, ap, ◌∙◌}
+use mathlib.Core.Path.{ap}
 use mathlib.Core.List.{List}
-use lib.ListN.{length-map}
 use Rattle.receiving.specs.declared.Slot.{Slot}
 use Rattle.receiving.specs.Slots.{empty_slot}
 use Rattle.receiving.specs.Receiver.{moved_on}

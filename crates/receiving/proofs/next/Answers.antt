@@ -6,7 +6,6 @@ use Rattle.laws.proofs.Lists.{sets_over}
 use Rattle.receiving.specs.Slots.{container_in}
 use Rattle.receiving.specs.Receiver.{slot_at, asking}
 use Rattle.receiving.proofs.Calls.{refused_next, handed_over, has_room}
-use borrow.Author.Rules.{rules}
 use Rattle.receiving.proofs.next.Goals as goal
 
 pub returns-then-refused-ne0 : goal.returns-then-refused-ne0

@@ -6,7 +6,6 @@ use lib.ListN.{length}
 use Rattle.laws.specs.Calls.{room_number}
 use Rattle.receiving.specs.Slots.{container_in, is_held}
 use Rattle.receiving.specs.Numbers.{there_number, next_number}
-use borrow.Author.Rules.{rules}
 use Rattle.receiving.proofs.next_number.Goals as goal
 
 pub returns-then-slot-eq0 : goal.returns-then-slot-eq0

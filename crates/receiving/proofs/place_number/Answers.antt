@@ -5,7 +5,6 @@ use lib.ListN.{get_or}
 use Rattle.receiving.specs.Slots.{no_slot, is_held}
 use Rattle.receiving.specs.Numbers.{place_number}
 use Rattle.receiving.specs.Receiver.{slot_at}
-use borrow.Author.Rules.{rules}
 use Rattle.receiving.proofs.place_number.Goals as goal
 
 pub returns-then-d-ge128 : goal.returns-then-d-ge128

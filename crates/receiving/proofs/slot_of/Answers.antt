@@ -4,7 +4,6 @@ use mathlib.Core.Path.{ap}
 use mathlib.Core.List.{List}
 use lib.ListN.{length}
 use Rattle.receiving.specs.Slots.{slot_of}
-use borrow.Author.Rules.{rules}
 use Rattle.receiving.proofs.slot_of.Goals as goal
 
 pub returns : goal.returns

@@ -7,7 +7,6 @@ use Rattle.container.specs.Reading.{reading}
 use Rattle.report.specs.Report.{reported, inspected}
 use mathlib.Core.List.{List}
 use Prim.Native.Nat.{ℕ}
-use borrow.Author.Rules.{rules}
 use Rattle.report.proofs.inspect.Goals as goal
 
 pub slice_bounds-report-end : goal.slice_bounds-report-end

@@ -4,9 +4,8 @@ use mathlib.Core.Path.{ap}
 use native.Mathlib.Omega.{arith}
 use lib.ListN.{length}
 use Rattle.text.specs.Lines.{last_place, Put, item}
-use Rattle.text.proofs.Pieces.{put_then, put_as, put_same}
+use Rattle.text.proofs.Pieces.{put_then, put_as}
 use Rattle.report.specs.Report.{accepted_text, id}
-use borrow.Author.Rules.{rules}
 use Rattle.report.proofs.put_accepted.Goals as goal
 use Rattle.report.proofs.put_accepted.Goals.{After-slice_known-7-1}
 

@@ -3,7 +3,6 @@ use mathlib.Core.Path.{sym, ap}
 use native.Mathlib.Omega.{arith}
 use Rattle.text.proofs.Pieces.{put_then, put_as}
 use Rattle.report.specs.Report.{video_text}
-use borrow.Author.Rules.{rules}
 use Rattle.report.proofs.put_video.Goals as goal
 
 pub returns-in-Absent : goal.returns-in-Absent

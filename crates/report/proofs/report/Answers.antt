@@ -8,7 +8,6 @@ use Rattle.report.proofs.Sizes.{reported_size}
 use Rattle.container.specs.declared.Reading.{Reading}
 use Rattle.container.specs.Reading.{reading}
 use Rattle.report.specs.Report.{accepted_text, reported}
-use borrow.Author.Rules.{rules}
 use Rattle.report.proofs.report.Goals as goal
 
 -- the line of an accepted reading, and of a refused one

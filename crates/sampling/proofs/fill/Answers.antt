@@ -1,9 +1,7 @@
-use Prim.Native.Nat.{ℕ, ◌+◌, ◌-◌, ◌*◌, ◌≤◌, ◌<◌}
+use Prim.Native.Nat.{ℕ, ◌+◌, ◌-◌, ◌*◌}
 use mathlib.Core.Path.{◌≡◌, refl, ap, ◌∙◌}
-use mathlib.Core.List.{◌++◌}
 use native.Mathlib.Omega.{arith}
-use native.Mathlib.Nat.{mul-le-mul_left}
-use lib.ListN.{length, drop, length-set}
+use lib.ListN.{length-set}
 use Rattle.sampling.specs.Samples.{mean_of, pixel_by, firsts}
 use Rattle.sampling.proofs.Filled.{firsts_more}
 use Rattle.sampling.proofs.fill.Goals as goal

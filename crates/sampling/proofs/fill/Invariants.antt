@@ -1,12 +1,9 @@
 -- `sampling::fill` meets its contract. The loop's invariant: the pixels passed stand at the front of the room, and the next one's first tap is at hand.
-use Prim.Native.Nat.{ℕ, ◌+◌, ◌-◌, ◌*◌, ◌≤◌, ◌<◌}
-use mathlib.Core.Path.{◌≡◌, refl, ap, ◌∙◌}
+use Prim.Native.Nat.{◌+◌, ◌-◌, ◌*◌, ◌≤◌}
+use mathlib.Core.Path.{◌≡◌}
 use mathlib.Core.List.{◌++◌}
-use native.Mathlib.Omega.{arith}
-use native.Mathlib.Nat.{mul-le-mul_left}
-use lib.ListN.{length, drop, length-set}
-use Rattle.sampling.specs.Samples.{mean_of, pixel_by, firsts}
-use Rattle.sampling.proofs.Filled.{firsts_more}
+use lib.ListN.{length, drop}
+use Rattle.sampling.specs.Samples.{pixel_by, firsts}
 use Rattle.sampling.proofs.fill.Given as goal
 
 abbrev pub invariant-loop-i : goal.invariant-loop-i

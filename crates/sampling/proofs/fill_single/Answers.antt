@@ -1,9 +1,9 @@
-use Prim.Native.Nat.{ℕ, ◌+◌, ◌-◌, ◌*◌, ◌%◌, ◌≤◌, ◌<◌}
+use Prim.Native.Nat.{ℕ, ◌+◌, ◌*◌, ◌≤◌}
 use mathlib.Core.Path.{◌≡◌, refl, sym, ap, ◌∙◌}
-use mathlib.Core.List.{List, ◌++◌}
+use mathlib.Core.List.{List}
 use native.Mathlib.Omega.{arith}
 use native.Mathlib.Nat.{mul-le-mul_left, mul-add}
-use lib.ListN.{length, drop, length-set}
+use lib.ListN.{length-set}
 use Rattle.sampling.specs.Samples.{sample_at, mean_of, pixel_by, firsts}
 use Rattle.sampling.proofs.Means.{sample_small, single}
 use Rattle.sampling.proofs.Filled.{firsts_four}

@@ -1,13 +1,9 @@
 -- `sampling::fill_single` meets its contract. The loop's invariant: the pixels passed, four a turn, stand at the front of the room, and the next one's place is at hand.
-use Prim.Native.Nat.{ℕ, ◌+◌, ◌-◌, ◌*◌, ◌%◌, ◌≤◌, ◌<◌}
-use mathlib.Core.Path.{◌≡◌, refl, sym, ap, ◌∙◌}
-use mathlib.Core.List.{List, ◌++◌}
-use native.Mathlib.Omega.{arith}
-use native.Mathlib.Nat.{mul-le-mul_left, mul-add}
-use lib.ListN.{length, drop, length-set}
-use Rattle.sampling.specs.Samples.{sample_at, mean_of, pixel_by, firsts}
-use Rattle.sampling.proofs.Means.{sample_small, single}
-use Rattle.sampling.proofs.Filled.{firsts_four}
+use Prim.Native.Nat.{◌+◌, ◌-◌, ◌*◌, ◌%◌, ◌≤◌}
+use mathlib.Core.Path.{◌≡◌}
+use mathlib.Core.List.{◌++◌}
+use lib.ListN.{length, drop}
+use Rattle.sampling.specs.Samples.{pixel_by, firsts}
 use Rattle.sampling.proofs.fill_single.Given as goal
 
 abbrev pub invariant-loop-i : goal.invariant-loop-i

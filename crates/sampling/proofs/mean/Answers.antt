@@ -1,5 +1,4 @@
 -- `sampling::mean` meets its contract.
-use borrow.Author.Rules.{rules}
 use native.Mathlib.Omega.{arith}
 use Prim.Native.Nat.{◌/◌, ◌<◌}
 use mathlib.Core.Path.{ap}

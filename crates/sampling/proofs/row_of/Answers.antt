@@ -2,11 +2,10 @@
 use Prim.Native.Nat.{ℕ, ◌≤◌}
 use mathlib.Core.Path.{◌≡◌, sym, ap, ◌∙◌}
 use native.Mathlib.Omega.{arith}
-use Rattle.laws.proofs.Tests.{NoneOf, none_left}
+use Rattle.laws.proofs.Tests.{NoneOf}
 use Rattle.sampling.specs.declared.Row.{Row}
 use Rattle.sampling.specs.Formats.{table, named, row_of}
 use Rattle.sampling.proofs.Table.{no_row}
-use borrow.Author.Rules.{rules}
 use Rattle.sampling.proofs.row_of.Goals as goal
 
 -- the row of the arm's own key

@@ -1,5 +1,4 @@
 -- `sampling::tap` meets its contract.
-use borrow.Author.Rules.{rules}
 use Prim.Native.Nat.{ℕ, ◌/◌, ◌%◌}
 use mathlib.Core.Path.{ap}
 use Rattle.sampling.specs.Samples.{sample_at}

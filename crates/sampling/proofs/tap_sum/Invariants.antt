@@ -1,11 +1,7 @@
 -- `sampling::tap_sum` meets its contract. The loop's invariant: the two halves of `pairs` add up to the sum so far.
-use mathlib.Core.Path.{◌≡◌, refl, sym, ap, subst, ◌∙◌}
-use mathlib.Core.List.{List}
-use Prim.Native.Nat.{ℕ, ◌+◌, ◌-◌, ◌*◌, ◌/◌, ◌%◌, ◌≤◌, ◌<◌}
-use native.Mathlib.Omega.{arith}
-use Rattle.sampling.specs.Samples.{sample_at, tap_sum}
-use Rattle.sampling.proofs.Means.{sum_small, sum_two, sum_more, sample_small, one_tap}
-use Rattle.sampling.proofs.Pairs.{pair_more, last_more}
+use mathlib.Core.Path.{◌≡◌}
+use Prim.Native.Nat.{◌+◌, ◌-◌, ◌/◌, ◌%◌, ◌≤◌}
+use Rattle.sampling.specs.Samples.{tap_sum}
 use Rattle.sampling.proofs.tap_sum.Given as goal
 
 abbrev pub invariant-loop-i : goal.invariant-loop-i

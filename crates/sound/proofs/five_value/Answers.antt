@@ -6,7 +6,6 @@ use native.Mathlib.Omega.{arith}
 use Rattle.sound.specs.Mix.{signed, weights, divisor}
 use Rattle.sound.proofs.Rounding.{lowered}
 use Rattle.sound.proofs.Instants.{value_raised}
-use borrow.Author.Rules.{rules}
 use Rattle.sound.proofs.five_value.Goals as goal
 
 pub returns : goal.returns

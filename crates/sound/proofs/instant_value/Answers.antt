@@ -8,7 +8,6 @@ use lib.Seq.{sets}
 use Rattle.laws.proofs.Lists.{tail_part}
 use Rattle.sound.specs.Mix.{instant_value}
 use Rattle.sound.proofs.Instants.{past_value, cut_value, few_bytes}
-use borrow.Author.Rules.{rules}
 use Rattle.sound.proofs.instant_value.Goals as goal
 
 pub returns-then-block-at : goal.returns-then-block-at

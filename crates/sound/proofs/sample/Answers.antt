@@ -1,7 +1,6 @@
 -- `sound::sample` meets its contract.
 use mathlib.Core.Path.{ap}
 use Rattle.sound.specs.Mix.{signed, signed_at}
-use borrow.Author.Rules.{rules}
 use Rattle.sound.proofs.sample.Goals as goal
 
 pub returns : goal.returns

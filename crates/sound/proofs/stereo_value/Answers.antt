@@ -6,7 +6,6 @@ use native.Mathlib.Omega.{arith}
 use lib.IntN.{ℤ}
 use Rattle.sound.specs.Mix.{signed, weights, divisor}
 use Rattle.sound.proofs.Instants.{value_raised}
-use borrow.Author.Rules.{rules}
 use Rattle.sound.proofs.stereo_value.Goals as goal
 
 pub returns : goal.returns

@@ -6,7 +6,6 @@ use lib.IntN.{ℤ}
 use Rattle.sound.specs.Mix.{signed, instant_samples, weights, pseudo_absolute, instant_bytes}
 use Rattle.sound.proofs.Meaning.{mono_mixed}
 use Rattle.sound.proofs.Instants.{five_samples, value_of, bytes_of, not_listed}
-use borrow.Author.Rules.{rules}
 use Rattle.sound.proofs.whole_value.Goals as goal
 
 pub sample-requires : goal.sample-requires

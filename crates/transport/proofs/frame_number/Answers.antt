@@ -3,11 +3,10 @@ use Prim.Native.Nat.{ℕ, ◌+◌}
 use mathlib.Core.Path.{◌≡◌, sym, ap, ◌∙◌}
 use mathlib.Core.List.{List}
 use mathlib.Core.Bool.{true}
-use borrow.Author.Tests.{eq-eqb, ne_eqb, le-leb, lt-leb, not-true, not-false}
+use borrow.Author.Tests.{eq-eqb, ne_eqb, le-leb, lt-leb}
 use lib.Dec.{leb}
 use lib.ListN.{length}
 use Rattle.transport.specs.Reading.{start_right, length_right, frame_number}
-use borrow.Author.Rules.{rules}
 use Rattle.transport.proofs.frame_number.Goals as goal
 use Rattle.transport.proofs.frame_number.Goals.{Else-bytes-lt10, Else-bytes-pair_at, Else-not-start_right}
 

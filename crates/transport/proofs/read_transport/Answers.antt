@@ -11,7 +11,6 @@ use Rattle.laws.proofs.Layers.{own_first, own_passed}
 use Rattle.container.specs.Reading.{reading}
 use Rattle.transport.specs.Reading.{frame_number, container_bytes, inner_number, read_number, read_done, read_out}
 use Rattle.transport.proofs.Passed.{passed, length_carried}
-use borrow.Author.Rules.{rules}
 use Rattle.transport.proofs.read_transport.Goals as goal
 use Rattle.transport.proofs.read_transport.Goals.{After-container_number-number, Else-frame-ne0, Start}
 

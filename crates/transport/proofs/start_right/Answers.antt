@@ -1,7 +1,6 @@
 -- `transport::start_right` meets its contract.
 use Rattle.laws.proofs.Tests.{tests}
 use Rattle.transport.specs.Reading.{start_right}
-use borrow.Author.Rules.{rules}
 use Rattle.transport.proofs.start_right.Goals as goal
 
 pub returns-then-bytes-ne0 : goal.returns-then-bytes-ne0

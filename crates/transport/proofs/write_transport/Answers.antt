@@ -9,7 +9,6 @@ use Rattle.container.specs.Reading.{reading}
 use Rattle.container_laws.proofs.Container.{accepted_size}
 use Rattle.transport.specs.Writing.{transport_bytes, write_number, write_done, write_out}
 use Rattle.transport.proofs.Written.{length_transport}
-use borrow.Author.Rules.{rules}
 use Rattle.transport.proofs.write_transport.Goals as goal
 use Rattle.transport.proofs.write_transport.Goals.{Else-number-ne0, Start}
 

@@ -5,7 +5,6 @@ use lib.ListN.{length}
 use borrow.Author.Tests.{le-leb, lt-leb}
 use Rattle.laws.proofs.Tests.{tests}
 use Rattle.answers.specs.Rooms.{room_at}
-use borrow.Author.Rules.{rules}
 use Rattle.answers.proofs.asks.room_at.Goals as goal
 
 pub returns-then-payload-lt2 : goal.returns-then-payload-lt2

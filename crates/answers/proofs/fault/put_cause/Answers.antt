@@ -1,15 +1,11 @@
 -- `answers::fault::put_cause` meets its contract.
-use Prim.Native.Nat.{◌≤◌}
-use mathlib.Core.Path.{◌≡◌, sym, ap}
+use mathlib.Core.Path.{◌≡◌, ap}
 use mathlib.Core.List.{[], ◌∷◌}
 use native.Mathlib.Omega.{arith}
-use lib.ListN.{length, take}
-use lib.Seq.{length-take-le}
+use lib.ListN.{take}
 use Rattle.text.specs.Spelling.{hex_text}
 use Rattle.text.proofs.Pieces.{put_then, put_as}
 use Rattle.answers.specs.Faults.{cause_row, cause_size, cause_tag, cause_tags, cause_text}
-use Rattle.answers.proofs.Rows.{cause_within}
-use borrow.Author.Rules.{rules}
 use Rattle.answers.proofs.fault.put_cause.Goals as goal
 use Rattle.answers.proofs.fault.put_cause.Goals.{After-cause_tags-tags}
 

@@ -2,7 +2,6 @@
 use native.Mathlib.Omega.{arith}
 use Rattle.text.proofs.Pieces.{put_then}
 use Rattle.answers.specs.Faults.{fault_line}
-use borrow.Author.Rules.{rules}
 use Rattle.answers.proofs.fault.say_fault.Goals as goal
 
 pub returns : goal.returns

@@ -1,9 +1,6 @@
-use Prim.Native.Nat.{◌-◌, ◌≤◌}
-use mathlib.Core.Path.{◌≡◌, refl, sym, ◌∙◌}
+use mathlib.Core.Path.{sym, ◌∙◌}
 use native.Mathlib.Omega.{arith}
 use borrow.Author.Tests.{eq-eqb, ne_eqb}
-use lib.ListN.{length, drop}
-use Rattle.answers.specs.Lines.{is_untouched}
 use Rattle.answers.proofs.Watch.{untouched_step, untouched_end}
 use Rattle.answers.proofs.say.is_untouched.Goals as goal
 

@@ -1,11 +1,8 @@
 -- `answers::say::is_untouched` meets its contract. The loop's invariant: the answer is that for what is left.
 use Prim.Native.Nat.{◌-◌, ◌≤◌}
-use mathlib.Core.Path.{◌≡◌, refl, sym, ◌∙◌}
-use native.Mathlib.Omega.{arith}
-use borrow.Author.Tests.{eq-eqb, ne_eqb}
+use mathlib.Core.Path.{◌≡◌}
 use lib.ListN.{length, drop}
 use Rattle.answers.specs.Lines.{is_untouched}
-use Rattle.answers.proofs.Watch.{untouched_step, untouched_end}
 use Rattle.answers.proofs.say.is_untouched.Given as goal
 
 abbrev pub invariant-loop-i : goal.invariant-loop-i

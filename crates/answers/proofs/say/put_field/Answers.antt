@@ -1,6 +1,5 @@
 -- `answers::say::put_field` meets its contract.
 use native.Mathlib.Omega.{arith}
-use borrow.Author.Rules.{rules}
 use Rattle.text.proofs.Pieces.{put_then}
 use Rattle.answers.specs.Lines.{field_text}
 use Rattle.answers.proofs.say.put_field.Goals as goal

@@ -1,12 +1,8 @@
 -- `answers::say::put_hand` meets its contract.
-use Prim.Native.Nat.{◌≤◌}
-use mathlib.Core.Path.{◌≡◌, sym}
-use lib.ListN.{length, take}
-use lib.Seq.{length-take-le}
+use mathlib.Core.Path.{◌≡◌}
+use lib.ListN.{take}
 use Rattle.text.proofs.Pieces.{put_as}
 use Rattle.answers.specs.Lines.{hand_word}
-use Rattle.answers.proofs.Rows.{hand_within}
-use borrow.Author.Rules.{rules}
 use Rattle.answers.proofs.say.put_hand.Goals as goal
 use Rattle.answers.proofs.say.put_hand.Goals.{After-hand_size-size}
 

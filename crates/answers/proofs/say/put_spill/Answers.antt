@@ -3,7 +3,6 @@ use mathlib.Core.Path.{sym, ◌∙◌}
 use native.Mathlib.Omega.{arith}
 use Rattle.text.proofs.Pieces.{put_none, put_as}
 use Rattle.answers.proofs.Watch.{spill_none, spill_some}
-use borrow.Author.Rules.{rules}
 use Rattle.answers.proofs.say.put_spill.Goals as goal
 
 pub returns-then-is_untouched : goal.returns-then-is_untouched

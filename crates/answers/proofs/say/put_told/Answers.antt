@@ -3,7 +3,6 @@ use mathlib.Core.Path.{sym, ap}
 use native.Mathlib.Omega.{arith}
 use Rattle.text.proofs.Pieces.{put_none, put_as}
 use Rattle.answers.specs.Lines.{told_text}
-use borrow.Author.Rules.{rules}
 use Rattle.answers.proofs.say.put_told.Goals as goal
 
 pub returns-in-Open : goal.returns-in-Open

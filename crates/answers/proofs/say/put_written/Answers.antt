@@ -3,7 +3,6 @@ use mathlib.Core.Path.{sym}
 use native.Mathlib.Omega.{arith}
 use Rattle.text.proofs.Pieces.{put_none, put_then, put_as}
 use Rattle.answers.proofs.Watch.{hex_none, hex_some}
-use borrow.Author.Rules.{rules}
 use Rattle.answers.proofs.say.put_written.Goals as goal
 
 pub returns-then-number-ne0 : goal.returns-then-number-ne0

@@ -4,7 +4,6 @@ use native.Mathlib.Omega.{arith}
 use Rattle.text.proofs.Pieces.{put_none, put_as}
 use Rattle.answers.specs.declared.Answer.{Answer}
 use Rattle.answers.specs.Lines.{spill_part, line_with, said_of}
-use borrow.Author.Rules.{rules}
 use Rattle.answers.proofs.say.say.Goals as goal
 
 pub returns-in-Setup : goal.returns-in-Setup

@@ -1,15 +1,13 @@
 -- `answers::say::say_handed` meets its contract: one piece after the other.
 use Prim.Native.Nat.{ℕ, ◌≤◌}
-use mathlib.Core.Path.{sym, ap, ◌∙◌}
+use mathlib.Core.Path.{ap, ◌∙◌}
 use native.Mathlib.Omega.{arith}
 use lib.ListN.{length, take, drop}
-use lib.Seq.{length-take-le}
 use Rattle.text.specs.Lines.{last_place, item}
 use Rattle.text.proofs.Pieces.{put_then, put_as}
 use Rattle.answers.specs.Lines.{hex_part, spill_part, handed_line}
 use Rattle.laws.proofs.Lists.{tail_part}
-use Rattle.answers.proofs.Parts.{least_within, least_take, least_drop}
-use borrow.Author.Rules.{rules}
+use Rattle.answers.proofs.Parts.{least_take, least_drop}
 use Rattle.answers.proofs.say.say_handed.Goals as goal
 use Rattle.answers.proofs.say.say_handed.Goals.{Start}
 

@@ -2,7 +2,6 @@
 use native.Mathlib.Omega.{arith}
 use Rattle.text.proofs.Pieces.{put_then}
 use Rattle.answers.specs.Lines.{number_line}
-use borrow.Author.Rules.{rules}
 use Rattle.answers.proofs.say.say_number.Goals as goal
 
 pub returns : goal.returns

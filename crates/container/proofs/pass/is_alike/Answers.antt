@@ -1,7 +1,6 @@
 -- `container::pass::is_alike` meets its contract: each answer by the tests that led to it.
 use Rattle.laws.proofs.Tests.{tests}
 use Rattle.container.specs.Passing.{is_alike}
-use borrow.Author.Rules.{rules}
 use Rattle.container.proofs.pass.is_alike.Goals as goal
 
 pub returns-then-b-counted : goal.returns-then-b-counted

@@ -3,14 +3,12 @@ use Prim.Native.Nat.{ℕ, ◌+◌, ◌/◌}
 use mathlib.Core.Path.{◌≡◌, refl, sym, ap, ◌∙◌}
 use mathlib.Core.List.{List}
 use mathlib.Core.Bool.{Bool, true, false, not}
-use native.Mathlib.Omega.{arith}
 use borrow.Author.Tests.{eq-eqb, ne_eqb, le-leb, lt-leb, eqb-true, eqb-false}
 use lib.Dec.{eqb}
 use lib.ListN.{get_or, drop}
 use Rattle.container.specs.Parts.{Run, run_of, audio_of, audio_part}
 use Rattle.laws.proofs.Lists.{tail_part}
 use Rattle.container.proofs.Passing.{run_ok, run_wrong}
-use borrow.Author.Rules.{rules}
 use Rattle.container.proofs.pass.pass_audio.Goals as goal
 
 -- a run's part is right where it takes bytes

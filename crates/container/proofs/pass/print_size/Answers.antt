@@ -1,17 +1,13 @@
 -- `container::pass::print_size` meets its contract: each answer by the tests that led to it.
-use Prim.Native.Nat.{ℕ, ◌/◌, ◌%◌, ◌≤◌}
+use Prim.Native.Nat.{ℕ, ◌/◌, ◌%◌}
 use mathlib.Core.Path.{◌≡◌, sym, ◌∙◌}
 use mathlib.Core.List.{List}
 use mathlib.Core.Bool.{true, false}
-use native.Mathlib.Omega.{arith}
-use borrow.Author.Tests.{not-true, not-false}
 use lib.ListN.{get_or}
 use Rattle.laws.proofs.Tests.{tests}
 use Rattle.rates.specs.Mixes.{mix_listed}
 use Rattle.rates.specs.Cadence.{count_occurs}
-use Rattle.rates.proofs.Table.{occurs_1_to_5}
 use Rattle.container.specs.Parts.{print_part, print_at}
-use borrow.Author.Rules.{rules}
 use Rattle.container.proofs.pass.print_size.Goals as goal
 use Rattle.container.proofs.pass.print_size.Goals.{Else-not-count_occurs, Else-not-mix_listed, Then-not-count_occurs, Then-not-mix_listed}
 

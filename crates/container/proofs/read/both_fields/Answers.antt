@@ -1,11 +1,9 @@
 -- `container::read::both_fields` meets its contract: each answer by the tests that led to it.
 use mathlib.Core.Path.{◌≡◌, sym, ◌∙◌}
 use mathlib.Core.Bool.{true, false}
-use borrow.Author.Tests.{not-true, not-false}
 use Rattle.laws.proofs.Tests.{tests}
 use Rattle.rates.specs.Rates.{two_fields}
 use Rattle.container.specs.Parts.{both_fields}
-use borrow.Author.Rules.{rules}
 use Rattle.container.proofs.read.both_fields.Goals as goal
 use Rattle.container.proofs.read.both_fields.Goals.{Else-not-two_fields, Then-not-two_fields}
 

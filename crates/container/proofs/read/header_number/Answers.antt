@@ -2,13 +2,10 @@
 use mathlib.Core.Path.{◌≡◌, sym, ◌∙◌}
 use mathlib.Core.Bool.{true, false}
 use Prim.Native.Nat.{◌/◌}
-use native.Mathlib.Omega.{arith}
 use lib.ListN.{get_or}
-use borrow.Author.Tests.{not-true, not-false}
 use Rattle.laws.proofs.Tests.{tests}
 use Rattle.rates.specs.Rates.{rate_listed}
 use Rattle.container.specs.Reading.{header_number}
-use borrow.Author.Rules.{rules}
 use Rattle.container.proofs.read.header_number.Goals as goal
 use Rattle.container.proofs.read.header_number.Goals.{Else-not-rate_listed, Then-not-rate_listed}
 

@@ -1,7 +1,6 @@
 -- `container::read::one_field` meets its contract: each answer by the test that led to it.
 use Rattle.laws.proofs.Tests.{tests}
 use Rattle.container.specs.Parts.{one_field}
-use borrow.Author.Rules.{rules}
 use Rattle.container.proofs.read.one_field.Goals as goal
 
 pub returns-then-b-gt240 : goal.returns-then-b-gt240

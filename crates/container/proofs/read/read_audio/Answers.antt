@@ -1,9 +1,7 @@
 -- `container::read::read_audio` meets its contract: each answer by the tests that led to it.
-use native.Mathlib.Omega.{arith}
 use Rattle.laws.proofs.Tests.{tests}
 use Rattle.container.specs.Parts.{audio_part}
 use Rattle.laws.proofs.Lists.{tail_part}
-use borrow.Author.Rules.{rules}
 use Rattle.container.proofs.read.read_audio.Goals as goal
 
 pub returns-then-flag-eq0 : goal.returns-then-flag-eq0

@@ -1,15 +1,14 @@
 -- `container::read::read_id` meets its contract: each answer by the tests that led to it.
-use lib.ListN.{length, take, drop, replicate, drop_of_length-le, length-take, length-drop}
+use lib.ListN.{length, take, drop, replicate, length-drop}
 use lib.Seq.{length-take-le}
 use Rattle.laws.specs.Calls.{over}
 use Rattle.laws.proofs.Lists.{sets_over}
-use Prim.Native.Nat.{ℕ, ◌-◌, ◌≤◌}
-use mathlib.Core.Path.{◌≡◌, refl, sym, ◌∙◌}
+use Prim.Native.Nat.{ℕ, ◌≤◌}
+use mathlib.Core.Path.{◌≡◌}
 use mathlib.Core.List.{List, append-nil}
 use native.Mathlib.Omega.{arith}
 use Rattle.laws.proofs.Tests.{tests}
 use Rattle.container.specs.Parts.{id_part}
-use borrow.Author.Rules.{rules}
 use Rattle.container.proofs.read.read_id.Goals as goal
 
 -- twenty bytes over twenty

@@ -3,13 +3,11 @@ use Prim.Native.Nat.{ℕ, ◌+◌, ◌/◌, ◌%◌, ◌≤◌}
 use mathlib.Core.Path.{◌≡◌, ap, sym, ◌∙◌}
 use mathlib.Core.List.{List}
 use native.Mathlib.Omega.{arith}
-use borrow.Author.Tests.{not-true, not-false}
 use lib.ListN.{length, drop}
 use Rattle.container.specs.declared.AudioPart.{AudioPart}
 use Rattle.container.specs.Parts.{video_part, audio_part}
 use Rattle.laws.proofs.Lists.{tail_part}
 use Rattle.container.proofs.Parts.{id_within, video_within, audio_within, parts_25, parts_26, parts_27, parts_28, parts_0}
-use borrow.Author.Rules.{rules}
 use Rattle.container.proofs.read.read_parts.Goals as goal
 use Rattle.container.proofs.read.read_parts.Goals.{After-read_audio-a, After-read_id-i, After-read_video-v}
 

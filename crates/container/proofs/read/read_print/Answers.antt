@@ -12,7 +12,6 @@ use Rattle.container.specs.declared.PrintPart.{PrintPart}
 use Rattle.container.specs.Parts.{print_at}
 use Rattle.container.proofs.Parts.{PrintRight, print_right, print_is}
 use Rattle.container.proofs.Passing.{print_no, print_some}
-use borrow.Author.Rules.{rules}
 use Rattle.container.proofs.read.read_print.Goals as goal
 use Rattle.container.proofs.read.read_print.Goals.{Else-end-eq0}
 

@@ -1,10 +1,8 @@
-use Prim.Native.Nat.{ℕ, ◌+◌, ◌-◌, ◌≤◌}
+use Prim.Native.Nat.{ℕ, ◌+◌, ◌≤◌}
 use mathlib.Core.Path.{◌≡◌, ap, sym, subst, ◌∙◌}
 use mathlib.Core.List.{List, ◌++◌}
 use mathlib.Core.Bool.{true, false}
 use native.Mathlib.Omega.{arith}
-use borrow.Author.Rules.{rules}
-use borrow.Author.Tests.{not-true, not-false}
 use lib.ListN.{length, set, take, drop, replicate, length-drop}
 use lib.Seq.{take_at}
 use Rattle.container.specs.declared.Print.{Print}
@@ -13,7 +11,7 @@ use Rattle.container.specs.Contents.{blank_print, same_count}
 use Rattle.container.specs.Parts.{Run, print_part, run_of, audio_of}
 use Rattle.laws.proofs.Lists.{tail_part}
 use Rattle.container.proofs.Parts.{print_used}
-use Rattle.container.proofs.Runs.{fill_step, Going, going_start, going_step, going_bad, going_end, going_print, run_length, run_prints}
+use Rattle.container.proofs.Runs.{fill_step, Going, going_step, going_bad, going_end, going_print, run_length, run_prints}
 use Rattle.container.proofs.read.read_run.Goals as goal
 use Rattle.container.proofs.read.read_run.Goals.{After-loop-k, After-read_print-part, After-same_count, Else-not-ok, Then-not-ok}
 

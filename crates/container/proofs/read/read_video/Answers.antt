@@ -1,7 +1,6 @@
 -- `container::read::read_video` meets its contract: each answer by the tests that led to it.
 use Rattle.laws.proofs.Tests.{tests}
 use Rattle.container.specs.Parts.{video_part}
-use borrow.Author.Rules.{rules}
 use Rattle.container.proofs.read.read_video.Goals as goal
 
 pub returns-then-flag-eq0 : goal.returns-then-flag-eq0

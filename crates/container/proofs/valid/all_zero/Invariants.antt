@@ -1,11 +1,8 @@
 -- `container::valid::all_zero` meets its contract. The loop's invariant: the answer is that for what is left.
 use Prim.Native.Nat.{◌-◌, ◌≤◌}
-use mathlib.Core.Path.{◌≡◌, refl, sym, ◌∙◌}
-use native.Mathlib.Omega.{arith}
-use borrow.Author.Tests.{eq-eqb, ne_eqb}
+use mathlib.Core.Path.{◌≡◌}
 use lib.ListN.{length, drop}
 use Rattle.container.specs.Writing.{all_zero}
-use Rattle.container.proofs.Readable.{zero_step, zero_end}
 use Rattle.container.proofs.valid.all_zero.Given as goal
 
 abbrev pub invariant-loop-i : goal.invariant-loop-i

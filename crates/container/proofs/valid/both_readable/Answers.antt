@@ -1,7 +1,6 @@
 -- `container::valid::both_readable` meets its contract: each answer by the tests that led to it.
 use Rattle.laws.proofs.Tests.{tests}
 use Rattle.container.specs.Writing.{video_readable}
-use borrow.Author.Rules.{rules}
 use Rattle.container.proofs.valid.both_readable.Goals as goal
 
 pub returns-then-a-gt240 : goal.returns-then-a-gt240

@@ -1,8 +1,7 @@
 -- `container::valid::id_readable` meets its contract.
-use mathlib.Core.Path.{◌≡◌, sym, ap, ◌∙◌}
+use mathlib.Core.Path.{sym, ap, ◌∙◌}
 use mathlib.Core.Bool.{Bool}
 use Rattle.container.specs.Writing.{id_readable}
-use borrow.Author.Rules.{rules}
 use Rattle.container.proofs.valid.id_readable.Goals as goal
 
 pub returns-then-present : goal.returns-then-present

@@ -1,7 +1,6 @@
 -- `container::valid::print_blank` meets its contract: each answer by the tests that led to it.
 use Rattle.laws.proofs.Tests.{tests}
 use Rattle.container.specs.Writing.{print_blank}
-use borrow.Author.Rules.{rules}
 use Rattle.container.proofs.valid.print_blank.Goals as goal
 
 pub returns-then-p-ne0 : goal.returns-then-p-ne0

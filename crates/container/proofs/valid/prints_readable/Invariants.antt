@@ -1,16 +1,8 @@
 -- `container::valid::prints_readable` meets its contract. The loop's invariant: the answer is that for the places left.
-use Prim.Native.Nat.{ℕ, ◌+◌, ◌-◌, ◌≤◌}
-use mathlib.Core.Path.{◌≡◌, ap, sym, ◌∙◌}
-use mathlib.Core.List.{[]}
-use mathlib.Core.Bool.{Bool, ◌&&◌}
-use native.Mathlib.Omega.{arith}
-use native.Mathlib.Nat.{sub-zero}
-use borrow.Author.Rules.{rules}
-use borrow.Author.Tests.{not-true, not-false}
-use lib.ListN.{length, drop}
-use Rattle.laws.proofs.Tests.{and_stops, and_goes}
+use Prim.Native.Nat.{◌-◌, ◌≤◌}
+use mathlib.Core.Path.{◌≡◌}
+use lib.ListN.{drop}
 use Rattle.container.specs.Writing.{prints_readable}
-use Rattle.container.proofs.Readable.{place_step, place_end}
 use Rattle.container.proofs.valid.prints_readable.Given as goal
 
 abbrev pub invariant-loop-k : goal.invariant-loop-k

@@ -1,12 +1,10 @@
 -- `container::valid::readable` meets its contract: each answer by the tests that led to it.
 use mathlib.Core.Path.{◌≡◌, sym, ◌∙◌}
 use mathlib.Core.Bool.{true, false}
-use borrow.Author.Tests.{not-true, not-false}
 use Rattle.laws.proofs.Tests.{tests}
 use Rattle.rates.specs.Rates.{rate_listed}
 use Rattle.container.specs.declared.Contents.{Contents}
 use Rattle.container.specs.Writing.{id_readable, video_readable, prints_readable, readable}
-use borrow.Author.Rules.{rules}
 use Rattle.container.proofs.valid.readable.Goals as goal
 use Rattle.container.proofs.valid.readable.Goals.{Else-not-id_readable, Else-not-prints_readable, Else-not-rate_listed, Else-not-video_readable, Then-not-id_readable, Then-not-prints_readable, Then-not-rate_listed, Then-not-video_readable}
 

@@ -1,8 +1,7 @@
 -- `container::valid::video_readable` meets its contract, variant by variant.
-use mathlib.Core.Path.{◌≡◌, sym, ap, ◌∙◌}
+use mathlib.Core.Path.{sym, ap}
 use Rattle.laws.proofs.Tests.{tests}
 use Rattle.container.specs.Writing.{video_readable}
-use borrow.Author.Rules.{rules}
 use Rattle.container.proofs.valid.video_readable.Goals as goal
 
 pub returns-in-Absent : goal.returns-in-Absent

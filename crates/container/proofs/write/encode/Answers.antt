@@ -3,7 +3,7 @@ use Prim.Native.Nat.{ℕ, ◌+◌, ◌-◌, ◌%◌, ◌≤◌}
 use mathlib.Core.Path.{◌≡◌, refl, sym, ap, ◌∙◌}
 use mathlib.Core.List.{List, [], ◌∷◌}
 use native.Mathlib.Omega.{arith}
-use lib.ListN.{length, take, length-set, length-map}
+use lib.ListN.{length, take}
 use lib.Seq.{sets, length-sets}
 use Rattle.laws.specs.Sums.{sum}
 use Rattle.laws.proofs.Lists.{sets_then}

@@ -1,7 +1,6 @@
 -- `container::write::flag_byte` meets its contract.
 use native.Mathlib.Omega.{arith}
 use Rattle.container.specs.Bytes.{flag_byte}
-use borrow.Author.Rules.{rules}
 use Rattle.container.proofs.write.flag_byte.Goals as goal
 
 pub returns : goal.returns

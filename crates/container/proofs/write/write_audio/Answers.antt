@@ -1,14 +1,13 @@
 -- `container::write::write_audio` meets its contract.
-use Prim.Native.Nat.{ℕ, ◌+◌, ◌-◌, ◌*◌}
-use mathlib.Core.Path.{◌≡◌, refl, sym, ap, ◌∙◌}
-use mathlib.Core.List.{List, [], ◌∷◌}
+use Prim.Native.Nat.{◌+◌, ◌-◌, ◌*◌}
+use mathlib.Core.Path.{refl, sym, ap, ◌∙◌}
+use mathlib.Core.List.{[], ◌∷◌}
 use native.Mathlib.Omega.{arith}
 use lib.ListN.{length, take}
 use lib.Seq.{sets}
 use Rattle.laws.proofs.Lists.{sets_then}
 use Rattle.container.specs.Bytes.{run_bytes}
 use Rattle.container.proofs.Bytes.{audio_none, audio_some}
-use borrow.Author.Rules.{rules}
 use Rattle.container.proofs.write.write_audio.Goals as goal
 
 pub returns-then-n-eq0 : goal.returns-then-n-eq0

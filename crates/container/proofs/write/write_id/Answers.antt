@@ -8,7 +8,6 @@ use lib.ListN.{length}
 use lib.Seq.{sets}
 use Rattle.laws.proofs.Lists.{sets_then}
 use Rattle.container.specs.Bytes.{id_bytes}
-use borrow.Author.Rules.{rules}
 use Rattle.container.proofs.write.write_id.Goals as goal
 use Rattle.container.proofs.write.write_id.Goals.{Start}
 

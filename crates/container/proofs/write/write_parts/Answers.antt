@@ -1,9 +1,9 @@
 -- `container::write::write_parts` meets its contract: each part from where the one before it ended.
-use Prim.Native.Nat.{ℕ, ◌+◌, ◌≤◌}
-use mathlib.Core.Path.{◌≡◌, refl, sym, ap, ◌∙◌}
+use Prim.Native.Nat.{ℕ}
+use mathlib.Core.Path.{◌≡◌}
 use mathlib.Core.List.{List, ◌++◌}
 use native.Mathlib.Omega.{arith}
-use lib.ListN.{length, length-append, length-map}
+use lib.ListN.{length, length-append}
 use Rattle.laws.proofs.Lists.{sets_then}
 use Rattle.container.specs.Bytes.{id_bytes, video_bytes, audio_bytes, part_bytes}
 use Rattle.container.proofs.Bytes.{id_at_most, video_at_most}

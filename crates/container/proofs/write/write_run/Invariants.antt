@@ -1,17 +1,9 @@
 -- `container::write::write_run` meets its contract. The loop's invariant: the fingerprints so far are written.
-use Prim.Native.Nat.{ℕ, ◌+◌, ◌-◌, ◌*◌, ◌≤◌, ◌<◌}
-use mathlib.Core.Path.{◌≡◌, refl, ap, sym, subst, ◌∙◌}
-use mathlib.Core.List.{List, []}
-use native.Mathlib.Omega.{arith}
-use borrow.Author.Rules.{rules}
-use lib.ListN.{length, get_or, take}
+use Prim.Native.Nat.{◌+◌, ◌-◌, ◌*◌, ◌≤◌}
+use mathlib.Core.Path.{◌≡◌}
+use lib.ListN.{length, take}
 use lib.Seq.{sets}
-use Rattle.laws.proofs.Lists.{get_d_any, sets_then}
-use Rattle.container.specs.declared.Print.{Print}
-use Rattle.container.specs.Contents.{blank_print}
-use Rattle.container.specs.Bytes.{print_bytes, run_bytes}
-use Rattle.container.specs.Writing.{PrintFits}
-use Rattle.container.proofs.Bytes.{print_at_most, run_snoc, run_longer}
+use Rattle.container.specs.Bytes.{run_bytes}
 use Rattle.container.proofs.write.write_run.Given as goal
 
 abbrev pub invariant-loop-k : goal.invariant-loop-k

@@ -1,12 +1,10 @@
 -- `container::write::write_video` meets its contract, variant by variant.
-use Prim.Native.Nat.{ℕ, ◌+◌}
-use mathlib.Core.Path.{◌≡◌, refl, sym, ap, ◌∙◌}
-use mathlib.Core.List.{List, [], ◌∷◌}
+use mathlib.Core.Path.{◌≡◌, sym, ap, ◌∙◌}
+use mathlib.Core.List.{[], ◌∷◌}
 use native.Mathlib.Omega.{arith}
 use lib.ListN.{length}
 use lib.Seq.{sets}
 use Rattle.container.specs.Bytes.{video_bytes}
-use borrow.Author.Rules.{rules}
 use Rattle.container.proofs.write.write_video.Goals as goal
 
 pub returns-in-Absent : goal.returns-in-Absent

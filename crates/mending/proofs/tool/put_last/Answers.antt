@@ -2,7 +2,6 @@
 use native.Mathlib.Omega.{arith}
 use Rattle.text.proofs.Pieces.{put_then}
 use Rattle.mending.specs.Report.{kept_text}
-use borrow.Author.Rules.{rules}
 use Rattle.mending.proofs.tool.put_last.Goals as goal
 
 pub returns : goal.returns

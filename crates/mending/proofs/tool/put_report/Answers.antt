@@ -1,16 +1,15 @@
-use Prim.Native.Nat.{ℕ, ◌+◌, ◌-◌}
+use Prim.Native.Nat.{ℕ, ◌+◌}
 use mathlib.Core.Path.{◌≡◌, refl, ◌∙◌}
 use mathlib.Core.List.{List}
 use native.Mathlib.Omega.{arith}
-use lib.ListN.{length, drop}
+use lib.ListN.{drop}
 use Rattle.text.specs.Lines.{Put}
 use Rattle.text.proofs.Pieces.{put_same}
 use Rattle.mending.specs.Report.{mended_text}
 use Rattle.mending.specs.Places.{gap}
 use Rattle.mending.proofs.Gaps.{next_lands}
 use Rattle.mending.proofs.Walks.{Turn, turn, count_size}
-use Rattle.mending.proofs.Lines.{Saying, saying_first, saying_next, saying_last, count_over, count_field}
-use borrow.Author.Rules.{rules}
+use Rattle.mending.proofs.Lines.{saying_first, saying_next, saying_last, count_over, count_field}
 use Rattle.mending.proofs.tool.put_report.Goals as goal
 use Rattle.mending.proofs.tool.put_report.Goals.{After-field_end-start, After-slice_known-3-1}
 

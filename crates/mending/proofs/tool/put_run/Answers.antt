@@ -4,7 +4,6 @@ use native.Mathlib.Omega.{arith}
 use Rattle.text.proofs.Pieces.{put_none, put_then, put_as}
 use Rattle.mending.specs.Report.{run_text}
 use Rattle.mending.proofs.Lines.{no_run, a_run}
-use borrow.Author.Rules.{rules}
 use Rattle.mending.proofs.tool.put_run.Goals as goal
 
 pub returns-then-end-start : goal.returns-then-end-start

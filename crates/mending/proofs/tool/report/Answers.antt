@@ -14,7 +14,6 @@ use Rattle.mending.specs.Report.{mended_text, reported}
 use Rattle.mending.proofs.Gaps.{gap_within}
 use Rattle.mending.proofs.Numbers.{too_long, no_field, a_field}
 use Rattle.mending.proofs.Sizes.{reported_size}
-use borrow.Author.Rules.{rules}
 use Rattle.mending.proofs.tool.report.Goals as goal
 
 -- the lines of a recording that is refused, and of one that is not

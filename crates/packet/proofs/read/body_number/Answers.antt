@@ -4,14 +4,13 @@ use mathlib.Core.Path.{◌≡◌, refl, sym, ap, ◌∙◌}
 use mathlib.Core.List.{List}
 use mathlib.Core.Bool.{true}
 use native.Mathlib.Omega.{arith}
-use borrow.Author.Tests.{eq-eqb, ne_eqb, not-true, not-false}
+use borrow.Author.Tests.{eq-eqb, ne_eqb}
 use lib.Dec.{eqb}
 use lib.ListN.{length, get_or, take, drop}
 use Rattle.packet.specs.Words.{words_of, check_word}
 use Rattle.packet.specs.Reading.{every, parity_right, count_of, user_words, covered_words, body_number}
 use Rattle.packet.proofs.TenBits.{length_words_of, words_part}
 use Rattle.packet.proofs.Passed.{count_byte}
-use borrow.Author.Rules.{rules}
 use Rattle.packet.proofs.read.body_number.Goals as goal
 use Rattle.packet.proofs.read.body_number.Goals.{After-check_of, After-parities_right, After-parity_right, Else-not-parities_right, Else-not-parity_right, Else-words-n, Start}
 

@@ -1,7 +1,6 @@
 -- `packet::read::count_of` meets its contract.
 use Rattle.packet.specs.Words.{low}
 use Rattle.packet.specs.Reading.{count_of}
-use borrow.Author.Rules.{rules}
 use Rattle.packet.proofs.read.count_of.Goals as goal
 
 pub returns : goal.returns

@@ -3,13 +3,12 @@ use Prim.Native.Nat.{ℕ, ◌%◌}
 use mathlib.Core.Path.{◌≡◌, sym, ◌∙◌}
 use mathlib.Core.List.{List}
 use mathlib.Core.Bool.{true}
-use borrow.Author.Tests.{eq-eqb, ne_eqb, le-leb, lt-leb, not-true, not-false}
+use borrow.Author.Tests.{eq-eqb, ne_eqb, le-leb, lt-leb}
 use lib.Dec.{leb, eqb}
 use lib.ListN.{length}
 use Rattle.packet.specs.Words.{words_of}
 use Rattle.packet.specs.Reading.{every, ten_bits, start_right, names_right, frame_number}
 use Rattle.packet.proofs.TenBits.{length_words_of}
-use borrow.Author.Rules.{rules}
 use Rattle.packet.proofs.read.frame_number.Goals as goal
 use Rattle.packet.proofs.read.frame_number.Goals.{Else-not-names_right, Else-not-start_right, Else-not-ten_bits, Else-words-lt7, Else-words-ne0}
 

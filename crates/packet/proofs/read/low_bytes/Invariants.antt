@@ -1,12 +1,10 @@
 -- `packet::read::low_bytes` meets its contract. The loop's invariant: the bytes still to be stored, stored into out as it now is, give the promised bytes.
-use Prim.Native.Nat.{ℕ, ◌-◌, ◌/◌, ◌≤◌}
-use mathlib.Core.Path.{◌≡◌, refl, sym, ap, ◌∙◌}
-use mathlib.Core.List.{List, map}
-use borrow.Author.Rules.{rules}
-use lib.ListN.{length, drop, drop_of_length-le}
+use Prim.Native.Nat.{◌-◌, ◌/◌, ◌≤◌}
+use mathlib.Core.Path.{◌≡◌}
+use mathlib.Core.List.{map}
+use lib.ListN.{length, drop}
 use lib.Seq.{sets}
 use Rattle.packet.specs.Words.{low, words_of}
-use Rattle.packet.proofs.TenBits.{length_words_of, low_next}
 use Rattle.packet.proofs.read.low_bytes.Given as goal
 
 abbrev pub invariant-loop-i : goal.invariant-loop-i

@@ -1,7 +1,6 @@
 -- `packet::read::names_right` meets its contract.
 use borrow.Author.Tests.{eq-eqb, ne_eqb}
 use Rattle.packet.specs.Reading.{names_right}
-use borrow.Author.Rules.{rules}
 use Rattle.packet.proofs.read.names_right.Goals as goal
 
 pub returns-then-word_at-ne577 : goal.returns-then-word_at-ne577

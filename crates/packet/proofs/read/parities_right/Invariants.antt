@@ -1,13 +1,9 @@
 -- `packet::read::parities_right` meets its contract. The loop's invariant: the answer is that for what is left.
 use Prim.Native.Nat.{◌-◌, ◌/◌, ◌≤◌}
-use mathlib.Core.Path.{◌≡◌, refl, sym, ◌∙◌}
-use mathlib.Core.Bool.{true, false}
-use borrow.Author.Rules.{rules}
-use borrow.Author.Tests.{not-true, not-false}
-use lib.ListN.{length, get_or, drop}
+use mathlib.Core.Path.{◌≡◌}
+use lib.ListN.{length, drop}
 use Rattle.packet.specs.Words.{words_of}
 use Rattle.packet.specs.Reading.{every, parity_right}
-use Rattle.packet.proofs.TenBits.{length_words_of, every_next, every_fails, every_end}
 use Rattle.packet.proofs.read.parities_right.Given as goal
 
 abbrev pub invariant-loop-i : goal.invariant-loop-i

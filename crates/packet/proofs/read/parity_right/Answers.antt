@@ -1,6 +1,5 @@
 -- `packet::read::parity_right` meets its contract.
 use Rattle.packet.specs.Words.{low}
-use borrow.Author.Rules.{rules}
 use Rattle.packet.proofs.read.parity_right.Goals as goal
 
 pub returns : goal.returns

@@ -1,7 +1,6 @@
 -- `packet::read::start_right` meets its contract.
 use borrow.Author.Tests.{eq-eqb, ne_eqb}
 use Rattle.packet.specs.Reading.{start_right}
-use borrow.Author.Rules.{rules}
 use Rattle.packet.proofs.read.start_right.Goals as goal
 
 pub returns-then-word_at-ne0 : goal.returns-then-word_at-ne0

@@ -1,11 +1,10 @@
-use Prim.Native.Nat.{◌-◌, ◌/◌, ◌≤◌}
-use mathlib.Core.Path.{◌≡◌, refl, sym, ◌∙◌}
+use mathlib.Core.Path.{◌≡◌, sym, ◌∙◌}
 use mathlib.Core.Bool.{true, false}
 use borrow.Author.Rules.{rules}
 use borrow.Author.Tests.{le-leb, lt-leb}
-use lib.ListN.{length, get_or, drop}
+use lib.ListN.{get_or}
 use Rattle.packet.specs.Words.{words_of}
-use Rattle.packet.specs.Reading.{every, ten_bits}
+use Rattle.packet.specs.Reading.{ten_bits}
 use Rattle.packet.proofs.TenBits.{length_words_of, every_next, every_fails, every_end}
 use Rattle.packet.proofs.read.ten_bits.Goals as goal
 

@@ -1,9 +1,8 @@
-use Prim.Native.Nat.{ℕ, ◌+◌, ◌-◌, ◌/◌, ◌%◌, ◌≤◌, ◌<◌}
+use Prim.Native.Nat.{ℕ, ◌+◌, ◌%◌}
 use mathlib.Core.Path.{◌≡◌}
 use native.Mathlib.Omega.{arith}
 use borrow.Author.Rules.{rules}
-use lib.ListN.{length, drop}
-use Rattle.packet.specs.Words.{with_bit9, sum9, check_word, words_of}
+use Rattle.packet.specs.Words.{with_bit9, check_word, words_of}
 use Rattle.packet.proofs.TenBits.{length_words_of, sum9_next, sum9_end}
 use Rattle.packet.proofs.words.check_of.Goals as goal
 

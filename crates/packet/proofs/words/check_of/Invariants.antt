@@ -1,11 +1,8 @@
 -- `packet::words::check_of` meets its contract. The loop's invariant: what is summed with what is left is the whole sum, modulo 512.
-use Prim.Native.Nat.{ℕ, ◌+◌, ◌-◌, ◌/◌, ◌%◌, ◌≤◌, ◌<◌}
+use Prim.Native.Nat.{◌+◌, ◌-◌, ◌/◌, ◌%◌, ◌≤◌, ◌<◌}
 use mathlib.Core.Path.{◌≡◌}
-use native.Mathlib.Omega.{arith}
-use borrow.Author.Rules.{rules}
 use lib.ListN.{length, drop}
-use Rattle.packet.specs.Words.{with_bit9, sum9, check_word, words_of}
-use Rattle.packet.proofs.TenBits.{length_words_of, sum9_next, sum9_end}
+use Rattle.packet.specs.Words.{sum9, words_of}
 use Rattle.packet.proofs.words.check_of.Given as goal
 
 abbrev pub invariant-loop-i : goal.invariant-loop-i

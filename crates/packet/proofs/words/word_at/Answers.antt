@@ -1,7 +1,5 @@
 -- `packet::words::word_at` meets its contract.
-use Prim.Native.Nat.{◌+◌, ◌*◌}
 use mathlib.Core.Path.{sym}
-use native.Mathlib.Omega.{arith}
 use Rattle.packet.proofs.TenBits.{get_d_words_of}
 use borrow.Author.Rules.{rules}
 use Rattle.packet.proofs.words.word_at.Goals as goal

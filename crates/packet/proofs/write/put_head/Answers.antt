@@ -1,7 +1,6 @@
 -- `packet::write::put_head` meets its contract.
 use Rattle.packet.specs.Words.{bytes_of}
 use Rattle.packet.specs.Writing.{head_words}
-use borrow.Author.Rules.{rules}
 use Rattle.packet.proofs.write.put_head.Goals as goal
 
 pub returns : goal.returns

@@ -5,7 +5,6 @@ use native.Mathlib.Omega.{arith}
 use lib.ListN.{length}
 use Rattle.packet.specs.Words.{check_word}
 use Rattle.packet.proofs.TenBits.{front_put, covered_put, packet_put}
-use borrow.Author.Rules.{rules}
 use Rattle.packet.proofs.write.put_packet.Goals as goal
 
 pub returns : goal.returns

@@ -1,12 +1,10 @@
 -- `packet::write::put_users` meets its contract. The loop's invariant: the words still to be stored, stored into out as it now is, give the promised bytes.
-use Prim.Native.Nat.{ℕ, ◌+◌, ◌-◌, ◌*◌, ◌≤◌}
-use mathlib.Core.Path.{◌≡◌, refl, sym, ap, ◌∙◌}
-use mathlib.Core.List.{List, map}
-use borrow.Author.Rules.{rules}
-use lib.ListN.{length, drop, drop_of_length-le}
+use Prim.Native.Nat.{◌+◌, ◌-◌, ◌*◌, ◌≤◌}
+use mathlib.Core.Path.{◌≡◌}
+use mathlib.Core.List.{map}
+use lib.ListN.{length, drop}
 use lib.Seq.{sets}
 use Rattle.packet.specs.Words.{word_of, bytes_of}
-use Rattle.packet.proofs.TenBits.{user_next}
 use Rattle.packet.proofs.write.put_users.Given as goal
 
 abbrev pub invariant-loop-i : goal.invariant-loop-i

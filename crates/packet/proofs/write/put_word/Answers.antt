@@ -1,6 +1,5 @@
 -- `packet::write::put_word` meets its contract.
 use Rattle.packet.specs.Words.{bytes_of}
-use borrow.Author.Rules.{rules}
 use Rattle.packet.proofs.write.put_word.Goals as goal
 
 pub returns : goal.returns

@@ -15,6 +15,7 @@ module _ (x y : ℕ) (h : x < 256) (k : y < 256) where
   read : to_z w16 x -ℤ to_z w16 y ≡ fields.difference x y
   unfolding fields.difference
   read = ap₂ ◌-ℤ◌ (to_z_pos w16 x (omega arith)) (to_z_pos w16 y (omega arith))
+
   fits : SFits w16 (to_z w16 x -ℤ to_z w16 y)
   fits = subst (SFits w16) (sym read) (record { sfits = omega (arith, few_bits x y h k) })
 

@@ -1,5 +1,4 @@
 -- `picture::compare::held_after` meets its contract.
-use borrow.Author.Rules.{rules}
 use Rattle.laws.proofs.Tests.{tests}
 use Rattle.picture.specs.Fields.{held_after}
 use Rattle.picture.proofs.compare.held_after.Goals as goal

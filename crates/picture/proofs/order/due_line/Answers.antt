@@ -8,6 +8,6 @@ pub returns : goal.returns
 unfolding due_line
 returns c =
     elim c.if-field-eq1.branch [
-      then-field-eq1 w ↦ simp (eq-eqb _ _ w.if-field-eq1.true, w.first-is)
+      | then-field-eq1 w ↦ simp (eq-eqb _ _ w.if-field-eq1.true, w.first-is)
       | else-field-eq1 w ↦ simp (ne_eqb _ _ w.if-field-eq1.false, w.first-is)
     ]

@@ -1,7 +1,6 @@
 -- `picture::order::in_either_field` meets its contract.
 use mathlib.Core.Path.{◌≡◌, sym, ◌∙◌}
 use mathlib.Core.Bool.{false}
-use borrow.Author.Rules.{rules}
 use borrow.Author.Tests.{eq-eqb, ne_eqb}
 use Rattle.picture.specs.Lines.{among, interlaced, monitored}
 use Rattle.picture.proofs.order.in_either_field.Goals as goal

@@ -1,7 +1,6 @@
 -- `picture::order::in_order` meets its contract.
-use mathlib.Core.Path.{◌≡◌, sym, ◌∙◌}
+use mathlib.Core.Path.{sym, ◌∙◌}
 use mathlib.Core.Bool.{and-false}
-use borrow.Author.Rules.{rules}
 use borrow.Author.Tests.{eq-eqb, ne_eqb}
 use Rattle.picture.specs.Lines.{order_number}
 use Rattle.picture.proofs.Monitored.{not_first, not_five}

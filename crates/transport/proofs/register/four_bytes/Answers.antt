@@ -1,6 +1,5 @@
 -- `transport::register::four_bytes` meets its contract.
 use mathlib.Core.Path.{refl}
-use borrow.Author.Rules.{rules}
 use Rattle.transport.specs.Register.{four_bytes}
 use Rattle.transport.proofs.register.four_bytes.Goals as goal
 

@@ -5,7 +5,6 @@ use native.Mathlib.Omega.{arith}
 use lib.Bits.{bit_xor, xor_lt}
 use lib.ListN.{get_or}
 use Rattle.transport.specs.Table.{table}
-use borrow.Author.Rules.{rules}
 use Rattle.transport.proofs.Tested.{tabled}
 use Rattle.transport.proofs.Bytewise.{by_byte}
 use Rattle.transport.proofs.register.step.Goals as goal

@@ -1,6 +1,6 @@
 -- `transport::table::entry` meets its contract: each arm has its entry; a key that is left lies below the first, where the table has 0 too, or past the last.
 use Prim.Native.Nat.{ℕ, ◌-◌, ◌≤◌}
-use mathlib.Core.Path.{◌≡◌, refl, sym, ap, ◌∙◌}
+use mathlib.Core.Path.{◌≡◌, sym, ap}
 use native.Mathlib.Omega.{arith}
 use native.Mathlib.Decide.{dec_lt}
 use lib.ListN.{get_or, get_or-eq_default}
