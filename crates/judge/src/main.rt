@@ -5,6 +5,16 @@ ghost use Rattle.std.specs.Prelude.{◌≡◌, ◌≤◌, length};
 ghost use Rattle.judging.specs.Report.{Within};
 
 use judging::report::Report;
+use std::alloc::{AllocError, Global};
+use std::env::{Env, FillError};
+use std::fs::File;
+use std::io::{Error, Read};
+use std::os::fd::AsRawFd;
+
+// Linux's number for a name that is too long, and for bytes that are no text.
+const NAME_TOO_LONG: i32 = 36;
+
+const NO_TEXT: i32 = 84;
 
 // Room for the longest field: a tag, a length and 65,535 bytes.
 fn field_room() -> [u8; 65538]
@@ -56,53 +66,78 @@ fn judge_file(fd: i32) {
     io::write_all(1, &lines[..size]);
 }
 
-// Whether a file that was opened cannot be read, as a folder cannot.
-fn unreadable(fd: i32) -> bool {
+// Why a file that was opened cannot be read, as a folder cannot.
+fn unreadable(file: &mut File) -> Option<Error> {
     let mut none = [0u8; 1];
-    libc::read(fd, &mut none[..0]) < 0
+    file.read(&mut none[..0]).err()
 }
 
-// Says why a file cannot be read, by errno, which nothing done here changes.
-fn complain(name: &[u8])
+// Opens a file to be read. A path is text, so that a name of other bytes is refused.
+fn open_named(rt: &HostRuntime, name: &[u8]) -> Result<File, Error> {
+    let Ok(path) = str::from_utf8(name) else {
+        return Err(Error::from_raw_os_error(NO_TEXT));
+    };
+    let mut file = File::open(rt, path)?;
+    match unreadable(&mut file) {
+        Some(why) => Err(why),
+        None => Ok(file),
+    }
+}
+
+// The system's words for an error, without the error's number that std puts behind them.
+fn words(said: &str) -> &str {
+    match said.split_once(" (os error ") {
+        Some((before, _)) => before,
+        None => said,
+    }
+}
+
+// Says why a file cannot be read: on standard error, in one line.
+fn complain(alloc: Global, name: &[u8], why: Error) -> Result<(), AllocError>
     requires { length name.now ≤ 4096 }
 {
+    let said = format!(in alloc; "{why}")?;
     let mut line = line_room();
     text::put(b"judge: ", &mut line, 0);
     text::put(name, &mut line, 7);
     let size = 7 + name.len();
-    os::fail(&line[..size]);
+    io::write_all(2, &line[..size]);
+    io::write_all(2, b": ");
+    io::write_all(2, words(said.as_str()).as_bytes());
+    io::write_all(2, b"\n");
+    Ok(())
 }
 
 // The file that the argument names.
-fn judge_named() {
+fn judge_named(rt: &HostRuntime) -> Result<(), AllocError> {
     let mut name = io::buffer();
-    let n = os::arg(1, &mut name);
-    if os::errno() != 0 {
-        complain(b"the file's name");
-        return;
+    let Ok(n) = rt.arg(1, &mut name) else {
+        let why = Error::from_raw_os_error(NAME_TOO_LONG);
+        return complain(rt.alloc(), b"the file's name", why);
+    };
+    match open_named(rt, &name[..n]) {
+        Ok(file) => {
+            judge_file(file.as_raw_fd());
+            Ok(())
+        }
+        Err(why) => complain(rt.alloc(), &name[..n], why),
     }
-    let fd = os::open_read(&name[..n]);
-    if fd < 0 {
-        complain(&name[..n]);
-        return;
-    }
-    if unreadable(fd) {
-        complain(&name[..n]);
-        return;
-    }
-    judge_file(fd);
-    libc::close(fd);
 }
 
-fn main() {
-    let count = os::arg_count();
-    if count < 2 {
+// Whether the program was given such an argument, also one that is too long.
+fn has_argument(rt: &HostRuntime, place: usize) -> bool {
+    let mut name = io::buffer();
+    !matches!(rt.arg(place, &mut name), Err(FillError::NotPresent))
+}
+
+fn main(rt: HostRuntime) -> Result<(), AllocError> {
+    if !has_argument(&rt, 1) {
         judge_file(0);
-        return;
+        return Ok(());
     }
-    if 2 < count {
+    if has_argument(&rt, 2) {
         io::write_all(2, b"judge: one file at the most\n");
-        return;
+        return Ok(());
     }
-    judge_named();
+    judge_named(&rt)
 }
