@@ -3,7 +3,6 @@ use mathlib.Core.Path.{◌≡◌, refl, ◌∙◌}
 use native.Mathlib.Omega.{arith}
 use borrow.Author.Tests.{lt-ltb, le-ltb}
 use Rattle.judging.proofs.Judges.{with_audio, without_audio}
-use borrow.Author.Rules.{rules}
 use Rattle.judging.proofs.fit_contents.Goals as goal
 
 pub returns-then-c-eq0 : goal.returns-then-c-eq0

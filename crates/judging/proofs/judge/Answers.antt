@@ -16,7 +16,7 @@ use Rattle.judging.proofs.judge.Goals.{Else-refused-ne0}
 within : (c : goal.Else-refused-ne0) → c.read_packet-done.result.written ≤ length c.read_packet-done.new.out
 within c =
     let n = c.read_packet-done in
-    let l : length n.new.1.0 ≡ 255 = search rules in
+    let l : length n.new.out ≡ 255 = search rules in
     omega (arith, l, ap (λ (d : Done). d.written) n.ensures.0, read_fits c.args.words.now 255)
 
 pub returns-then-refused-ne0 : goal.returns-then-refused-ne0

@@ -1,7 +1,6 @@
 -- `judging::judge_contents` meets its contract.
 use mathlib.Core.Path.{refl}
 use Rattle.judging.specs.Judge.{faults_with, known_with, judged_with}
-use borrow.Author.Rules.{rules}
 use Rattle.judging.proofs.judge_contents.Goals as goal
 
 pub returns : goal.returns

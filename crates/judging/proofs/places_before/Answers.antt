@@ -1,7 +1,6 @@
 -- `judging::places_before` meets its contract.
 use Rattle.judging.specs.Places.{places_from, every_place}
 use Rattle.judging.specs.Judge.{places_before}
-use borrow.Author.Rules.{rules}
 use Rattle.judging.proofs.places_before.Goals as goal
 
 pub returns-then-rate_wrong : goal.returns-then-rate_wrong

@@ -1,12 +1,8 @@
 -- `judging::places::any_place` meets its contract. The loop's invariant: none of the places so far is one.
 use Prim.Native.Nat.{◌-◌, ◌≤◌}
-use mathlib.Core.Path.{◌≡◌, refl, sym, ◌∙◌}
-use native.Mathlib.Omega.{arith}
-use borrow.Author.Rules.{rules}
-use borrow.Author.Tests.{lt-ltb, le-ltb}
+use mathlib.Core.Path.{◌≡◌}
 use lib.ListN.{length, drop}
 use Rattle.judging.specs.Places.{any_place}
-use Rattle.judging.proofs.Steps.{any_step, any_end}
 use Rattle.judging.proofs.places.any_place.Given as goal
 
 abbrev pub invariant-loop-i : goal.invariant-loop-i

@@ -2,7 +2,6 @@
 use mathlib.Core.Path.{sym, ap, ◌∙◌}
 use Rattle.judging.specs.Places.{places_from, every_place, any_place}
 use Rattle.judging.proofs.Judges.{fits, begins_anew}
-use borrow.Author.Rules.{rules}
 use Rattle.judging.proofs.places.fit_bytes.Goals as goal
 
 pub returns-then-any_place : goal.returns-then-any_place

@@ -1,12 +1,8 @@
 -- `judging::places::fitted` meets its contract. The loop's invariant: the places so far are done.
-use Prim.Native.Nat.{ℕ, ◌-◌, ◌≤◌}
-use mathlib.Core.Path.{◌≡◌, refl, ap, ◌∙◌}
-use mathlib.Core.List.{List}
-use native.Mathlib.Omega.{arith}
-use borrow.Author.Rules.{rules}
-use lib.ListN.{length, get_or, set}
+use Prim.Native.Nat.{◌-◌, ◌≤◌}
+use mathlib.Core.Path.{◌≡◌}
+use lib.ListN.{length}
 use Rattle.laws.specs.Lists.{each}
-use Rattle.laws.proofs.Lists.{each_more, each_all}
 use Rattle.judging.specs.Places.{place_fitted}
 use Rattle.judging.proofs.places.fitted.Given as goal
 

@@ -1,7 +1,6 @@
 -- `judging::places::place_fitted` meets its contract.
 use borrow.Author.Tests.{eq-eqb, ne_eqb}
 use Rattle.judging.specs.Places.{place_fitted}
-use borrow.Author.Rules.{rules}
 use Rattle.judging.proofs.places.place_fitted.Goals as goal
 
 pub returns-then-bytes_due-bytes : goal.returns-then-bytes_due-bytes

@@ -1,7 +1,6 @@
 -- `judging::report::close` meets its contract.
 use Rattle.judging.proofs.Reports.{closed_refused, was_refused, was_empty, closed_clean, closed_lines}
 use native.Mathlib.Omega.{arith}
-use borrow.Author.Rules.{rules}
 use Rattle.judging.proofs.report.close.Goals as goal
 
 pub returns-then-r-ne0-clause-value : goal.returns-then-r-ne0-clause-value

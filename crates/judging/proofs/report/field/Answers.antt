@@ -3,17 +3,17 @@ use Prim.Native.Nat.{ℕ, ◌+◌, ◌-◌, ◌≤◌, ◌<◌}
 use mathlib.Core.Path.{◌≡◌, sym, ap, ◌∙◌}
 use native.Mathlib.Omega.{arith}
 use lib.ListN.{length, take, drop}
+use lib.Seq.{sets}
 use Rattle.records.specs.Records.{pair_at}
 use Rattle.text.specs.Lines.{Put}
 use Rattle.text.proofs.Pieces.{put_as}
 use Rattle.judging.specs.declared.Judged.{Judged}
 use Rattle.judging.specs.Judge.{judged_of}
 use Rattle.judging.specs.Lines.{faults_text}
-use Rattle.judging.specs.Report.{field_size, packet_in, judged, lines_of}
-use Rattle.judging.proofs.Reports.{refused_before, no_byte, refused_here, judged_here, whole_field}
-use borrow.Author.Rules.{rules}
+use Rattle.judging.specs.Report.{field_size, packet_in, judged, lines_of, gone_on}
+use Rattle.judging.proofs.Reports.{Left, refused_before, no_byte, refused_here, judged_here, whole_field}
 use Rattle.judging.proofs.report.field.Goals as goal
-use Rattle.judging.proofs.report.field.Goals.{After-pair_at-end}
+use Rattle.judging.proofs.report.field.Goals.{After-pair_at-end, After-put_faults-size}
 
 -- the field is one of 500, and whole
 whole : (c : goal.After-pair_at-end) → (c.args.r.packets < 500) × (field_size c.args.bytes.now ≤ length c.args.bytes.now)
@@ -35,7 +35,7 @@ pub returns-then-number-ne0-clause-value : goal.returns-then-number-ne0-clause-v
 returns-then-number-ne0-clause-value c =
     let a = c.args in
     let n = c.field_number-number in
-    rw n.ensures (refused_here a.r a.bytes.now a.out.now c.if-r-ne0.false c.if-bytes-eq0.false (λ z. c.if-number-ne0.true (n.ensures ∙ z)))
+    rw n.ensures (refused_here a.r a.bytes.now a.out.now c.if-r-ne0.false c.if-bytes-eq0.false (λ z. c.if-number-ne0.true (n.ensures ∙ z))).0
 
 pub slice_bounds-judge-end : goal.slice_bounds-judge-end
 unfolding field_size
@@ -44,30 +44,31 @@ slice_bounds-judge-end c = omega (arith, (whole (goal.at.slice_bounds-judge-end 
 pub overflow_add-packets : goal.overflow_add-packets
 overflow_add-packets c = omega (arith, (whole (goal.at.overflow_add-packets c).After-pair_at-end).0)
 
-pub returns-clause-value : goal.returns-clause-value
-unfolding packet_in lines_of
-returns-clause-value c =
+-- what is judged and put of its packet
+judged_as : (c : goal.After-put_faults-size) → c.judge-judged.result ≡ judged c.args.r c.args.bytes.now
+unfolding packet_in
+judged_as c =
+    let n = c.pair_at-end in
+    let size : 3 + n.result - 3 ≡ pair_at c.args.bytes.now 1 = omega (arith, n.ensures.0) in
+    c.judge-judged.ensures ∙ ap (λ (m : ℕ). judged_of c.args.r.known (take m (drop 3 c.args.bytes.now))) size
+
+said : (c : goal.After-put_faults-size) → Put c.args.out.now c.args.r.size (lines_of c.args.r c.args.bytes.now) c.put_faults-size.new.out c.put_faults-size.result
+unfolding lines_of
+said c = put_as (ap (λ (x : Judged). faults_text (c.args.r.packets + 1) x.faults) (judged_as c)) c.put_faults-size.ensures
+
+gone : (c : goal.After-put_faults-size) → Left c.args.r c.args.bytes.now c.args.out.now (gone_on c.args.r c.args.bytes.now) (sets c.args.out.now c.args.r.size (lines_of c.args.r c.args.bytes.now))
+gone c =
     let a = c.args in
     let f = a.bytes.now in
-    let n = c.pair_at-end in
-    let size : 3 + n.result - 3 ≡ pair_at f 1 = omega (arith, n.ensures.0) in
-    let j : c.judge-judged.result ≡ judged a.r f = c.judge-judged.ensures ∙ ap (λ (m : ℕ). judged_of a.r.known (take m (drop 3 f))) size in
-    let said : Put a.out.now a.r.size (lines_of a.r f) c.put_faults-size.new.out c.put_faults-size.result =
-    put_as (ap (λ (x : Judged). faults_text (a.r.packets + 1) x.faults) j) c.put_faults-size.ensures in
     let number = sym c.field_number-number.ensures ∙ c.if-number-ne0.false in
-    rw (j, said.place, said.stands)
-    (judged_here a.r f a.out.now c.if-r-ne0.false c.if-bytes-eq0.false number (whole (goal.at.returns-clause-value c).After-pair_at-end).0)
+    judged_here a.r f a.out.now c.if-r-ne0.false c.if-bytes-eq0.false number (whole_field a.r.packets f number).0
+
+pub returns-clause-value : goal.returns-clause-value
+returns-clause-value c =
+    let p = (goal.at.returns-clause-value c).After-put_faults-size in
+    rw (judged_as p, (said p).place, (said p).stands) (gone p).0
 
 pub returns-clause-within : goal.returns-clause-within
-unfolding packet_in lines_of
 returns-clause-within c =
-    let a = c.args in
-    let f = a.bytes.now in
-    let n = c.pair_at-end in
-    let size : 3 + n.result - 3 ≡ pair_at f 1 = omega (arith, n.ensures.0) in
-    let j : c.judge-judged.result ≡ judged a.r f = c.judge-judged.ensures ∙ ap (λ (m : ℕ). judged_of a.r.known (take m (drop 3 f))) size in
-    let said : Put a.out.now a.r.size (lines_of a.r f) c.put_faults-size.new.out c.put_faults-size.result =
-    put_as (ap (λ (x : Judged). faults_text (a.r.packets + 1) x.faults) j) c.put_faults-size.ensures in
-    let number = sym c.field_number-number.ensures ∙ c.if-number-ne0.false in
-    rw (j, said.place, said.stands)
-    (judged_here a.r f a.out.now c.if-r-ne0.false c.if-bytes-eq0.false number (whole (goal.at.returns-clause-within c).After-pair_at-end).0)
+    let p = (goal.at.returns-clause-within c).After-put_faults-size in
+    rw (judged_as p, (said p).place) (gone p).1

@@ -2,7 +2,6 @@
 use mathlib.Core.Path.{refl}
 use native.Mathlib.Omega.{arith}
 use Rattle.judging.specs.Report.{fresh_report}
-use borrow.Author.Rules.{rules}
 use Rattle.judging.proofs.report.open.Goals as goal
 
 pub returns : goal.returns

@@ -1,9 +1,7 @@
 -- `judging::report::put_fault` meets its contract.
 use native.Mathlib.Omega.{arith}
-use borrow.Author.Tests.{not-true, not-false}
 use Rattle.text.proofs.Pieces.{put_none, put_then}
 use Rattle.judging.specs.Lines.{fault_text}
-use borrow.Author.Rules.{rules}
 use Rattle.judging.proofs.report.put_fault.Goals as goal
 
 pub returns-then-not-holds : goal.returns-then-not-holds

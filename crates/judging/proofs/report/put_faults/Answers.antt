@@ -3,7 +3,6 @@ use native.Mathlib.Omega.{arith}
 use borrow.Author.Tests.{eq-eqb, ne_eqb}
 use Rattle.text.proofs.Pieces.{put_then}
 use Rattle.judging.specs.Lines.{faults_text}
-use borrow.Author.Rules.{rules}
 use Rattle.judging.proofs.report.put_faults.Goals as goal
 
 pub returns-then-faults-ne0 : goal.returns-then-faults-ne0

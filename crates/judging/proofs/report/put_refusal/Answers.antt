@@ -2,7 +2,6 @@
 use native.Mathlib.Omega.{arith}
 use Rattle.text.proofs.Pieces.{put_then}
 use Rattle.judging.specs.Lines.{refusal_text}
-use borrow.Author.Rules.{rules}
 use Rattle.judging.proofs.report.put_refusal.Goals as goal
 
 pub returns : goal.returns
