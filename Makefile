@@ -5,10 +5,10 @@
 help: ## this list
 	@sed -n 's/^\([a-z]*\):.*## /  make \1\t/p' $(MAKEFILE_LIST)
 
-run: ## shows card at work on a small feed: seconds unproved, then proved (4 to 5 minutes the first time)
+run: ## shows card at work on a small feed: seconds unproved, then proved (some minutes the first time)
 	@tools/run
 
-test: ## proves every crate from nothing and runs every test (32 minutes)
+test: ## proves every crate and runs every test; what rt ci passed on this machine is not proved again
 	@tools/test
 
 lib: ## proves the C interface and makes target/lib/liblipsync.a and .so
@@ -37,6 +37,6 @@ fuzz: ## card beside the second program on N (100) new random feeds of each kind
 	@tools/need rt "proving card, inspect, mend, receive and judge"
 	@tools/need cargo "the second program"
 	@tools/need python3 "the comparison"
-	rt check card inspect mend receive judge
 	cargo build --quiet --release --offline --manifest-path second/Cargo.toml --target-dir target/second
-	tools/compare "$$(tools/runnable target/bin/card)" --inspect "$$(tools/runnable target/bin/inspect)" --mend "$$(tools/runnable target/bin/mend)" --receive "$$(tools/runnable target/bin/receive)" --judge "$$(tools/runnable target/bin/judge)" --random $(N)
+	programs=$$(tools/program card inspect mend receive judge) && set -- $$programs && \
+	tools/compare "$$1" --inspect "$$2" --mend "$$3" --receive "$$4" --judge "$$5" --random $(N)

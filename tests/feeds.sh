@@ -1,11 +1,11 @@
 #!/usr/bin/env bash
 # Runs `card` on a small feed of each format, and of each rate code, and compares what it prints with the second program, byte for byte. Sound as
 # floating-point instants must give the containers that the same sound gives as blocks.
-# The feeds are made as they are needed (tools/sample-feed). Needs target/bin/card (rt check card) and the second program:
+# The feeds are made as they are needed (tools/sample-feed). Needs `card` (tools/program card) and the second program:
 #   cargo build --release --offline --manifest-path second/Cargo.toml --target-dir target/second
 set -euo pipefail
 cd "$(dirname "$0")/.."
-card=$(tools/runnable target/bin/card)
+card=$(tools/program card)
 second=${1:-target/second/release/second}
 folder=$(mktemp -d)
 trap 'rm -rf "$folder"' EXIT

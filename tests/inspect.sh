@@ -1,8 +1,8 @@
 #!/usr/bin/env bash
-# Runs target/bin/inspect on each container of tests/inspect.txt and compares all that it prints with the line there. Prints 'inspect: N cases' only if every one is right.
+# Runs `inspect` (tools/program inspect) on each container of tests/inspect.txt and compares all that it prints with the line there. Prints 'inspect: N cases' only if every one is right.
 set -euo pipefail
 cd "$(dirname "$0")/.."
-inspect=$(tools/runnable target/bin/inspect)
+inspect=$(tools/program inspect)
 cases=0
 wrong=0
 while IFS= read -r row; do

@@ -42,7 +42,7 @@ def leave(name, fault):
 def pour(parts, name, thing="feed", file="x.feed", reader="card"):
     """Writes records to standard output, unless that is a terminal."""
     if sys.stdout.isatty():
-        sys.exit("%s: a %s is no text: give a file (> %s) or a program (| target/bin/%s)" % (name, thing, file, reader))
+        sys.exit("%s: a %s is no text: give a file (> %s) or a program (| crates/%s/out/%s)" % (name, thing, file, reader, reader))
     try:
         for part in parts:
             sys.stdout.buffer.write(part)
