@@ -9,7 +9,6 @@ use native.Mathlib.Numerals.{add-one}
 use lib.Dec.{leb, eqb}
 use lib.ListN.{length, get_or, set}
 use borrow.Author.Tests.{leb-false, eqb-true, eq-eqb}
-use Rattle.laws.specs.Lists.{each}
 use Rattle.laws.specs.Calls.{done_with}
 use Rattle.laws.proofs.Tests.{chosen}
 use Rattle.rates.specs.Rates.{interval_of}
@@ -33,7 +32,7 @@ use Rattle.session.specs.declared.Begun.{Begun}
 use Rattle.session.specs.declared.Lined.{Lined}
 use Rattle.session.specs.declared.Sounded.{Sounded}
 use Rattle.session.specs.declared.Packed.{Packed}
-use Rattle.session.specs.Fingerprints.{fresh_fingerprints, shed, prints_of}
+use Rattle.session.specs.Fingerprints.{each, fresh_fingerprints, shed, prints_of}
 use Rattle.session.specs.Session.{is_set, no_fingerprint, reached, heard_with, line_of, sounded_number, sound_of, instanted_number, instant_of, video_restarted, audio_restarted, setup_number, set_up_with, setup_of}
 use Rattle.session.specs.Packing.{due_of, has_audio, spoken_of, contents_of, counter_after, place_from, session_after, pack_number, refused_with, packed_with, pack_of, pack_out, ready_number}
 use Rattle.demands.specs.Calls.{Setup, Call, line, sound, instant, pack, video_restart, audio_restart, Answer, saying, Event, begun, answer_of, after_call}

@@ -8,7 +8,6 @@ use native.Mathlib.Nat.{add-zero, add-suc, suc-add, not-suc-le-zero, le_of_suc-l
 use lib.Dec.{eqb}
 use lib.ListN.{length, get_or, set, replicate}
 use borrow.Author.Tests.{le-leb, eq-eqb, ne_eqb}
-use Rattle.laws.specs.Lists.{each}
 use Rattle.laws.proofs.Tests.{both}
 use Rattle.fingerprint.specs.declared.Fingerprint.{Fingerprint}
 use Rattle.fingerprint.specs.State.{fresh_of, take_of}
@@ -17,7 +16,7 @@ use Rattle.fingerprint.specs.Paper.{held_answer, leave_answer, bytes_answer, All
 use Rattle.fingerprint.proofs.History.{holds_fresh, holds_take, holds_restart}
 use Rattle.fingerprint.proofs.Answers.{holds_paper, can_take_paper, taken_paper, all_right}
 use Rattle.container.specs.declared.Print.{Print}
-use Rattle.session.specs.Fingerprints.{cleared, shed, all_hold, print_of, prints_of}
+use Rattle.session.specs.Fingerprints.{each, cleared, shed, all_hold, print_of, prints_of}
 use Rattle.session.specs.Session.{no_fingerprint}
 use Rattle.demands.specs.Paper.{every_holds, prints_said}
 

@@ -71,11 +71,7 @@ pub fn lipsync_read_packet(words: &[u8], out: &mut [u8], written: &mut usize) ->
 }
 
 // Write transport packet: 20 to 28, 12.
-pub fn lipsync_write_transport(
-    container: &[u8],
-    out: &mut [u8],
-    written: &mut usize,
-) -> u8
+pub fn lipsync_write_transport(container: &[u8], out: &mut [u8], written: &mut usize) -> u8
     ensures value { result ≡ (transport_writing.write_done container.now (length out.old)).number }
     ensures out_after { out.new ≡ transport_writing.write_out container.now out.old }
     ensures written_after { written.new ≡ (transport_writing.write_done container.now (length out.old)).written }
@@ -108,12 +104,7 @@ pub fn lipsync_mend(recording: &[u8], out: &mut [u8], written: &mut usize) -> u8
 }
 
 // Line sampling: 1, 2, 12.
-pub fn lipsync_sample_line(
-    format: u8,
-    line: &[u8],
-    out: &mut [u8],
-    written: &mut usize,
-) -> u8
+pub fn lipsync_sample_line(format: u8, line: &[u8], out: &mut [u8], written: &mut usize) -> u8
     ensures value { result ≡ (sample_done format line.now out.old).number }
     ensures out_after { out.new ≡ sample_out format line.now out.old }
     ensures written_after { written.new ≡ (sample_done format line.now out.old).written }

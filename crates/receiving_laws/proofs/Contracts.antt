@@ -1,6 +1,6 @@
 -- A run is made of what the functions of `receiving` promise: each function's own contract (`Post`, what its `ensures` claims) says that it answers `answer_of`
 -- and hands back `after_call`, over the values that it was given (a: the arguments; s: what was lent, at exit).
-use mathlib.Core.Path.{◌≡◌, refl, ap, ap₂}
+use mathlib.Core.Path.{◌≡◌, ap, ap₂}
 use mathlib.Core.List.{List}
 use Prim.Native.Nat.{ℕ}
 use contract.Lifetimes.{Lfts}

@@ -1,3 +1,2 @@
 // Theorems about receivers, in proofs/; there is no code here.
 #![tactic(auto)]
-

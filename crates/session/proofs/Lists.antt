@@ -6,13 +6,13 @@ use mathlib.Core.Bool.{true, ◌&&◌}
 use native.Mathlib.Omega.{arith}
 use native.Mathlib.Numerals.{add-one}
 use native.Mathlib.Nat.{not-suc-le-zero, le_of_suc-le-suc, add-zero, add-suc, suc-add}
-use lib.ListN.{length, get_or, drop, drop_of_length-le}
+use lib.ListN.{length, get_or, set, drop, drop_of_length-le}
 use lib.Seq.{drop-cons}
 use Rattle.fingerprint.specs.declared.Fingerprint.{Fingerprint}
 use Rattle.fingerprint.specs.State.{fresh_of, holds_of}
 use Rattle.rates.specs.Mixes.{mix_listed}
 use Rattle.container.specs.declared.Print.{Print}
-use Rattle.session.specs.Fingerprints.{all_listed, all_hold, print_of, prints_of}
+use Rattle.session.specs.Fingerprints.{all_listed, each, all_hold, print_of, prints_of}
 
 pub listed_step : (ms : List ℕ) (i : ℕ) → i < length ms → all_listed (drop i ms) ≡ (mix_listed (get_or ms i 0) && all_listed (drop (i + 1) ms))
 unfolding all_listed
@@ -27,6 +27,30 @@ pub fresh_at : (ms : List ℕ) (i : ℕ) (d : Fingerprint) → i < length ms →
 fresh_at [] i d h = absurd (not-suc-le-zero h)
 fresh_at (m ∷ ms) zero d h = refl
 fresh_at (m ∷ ms) (suc i) d h = fresh_at ms i d (le_of_suc-le-suc h)
+
+-- one fingerprint more that g makes
+module _ (g : Fingerprint → Fingerprint) (d : Fingerprint) where
+  suc_each : (n : ℕ) (fs : List Fingerprint) → n < length fs → set (each g n fs) n (g (get_or (each g n fs) n d)) ≡ each g (suc n) fs
+  unfolding each
+  suc_each n [] h = absurd (not-suc-le-zero h)
+  suc_each zero (f ∷ fs) h = refl
+  suc_each (suc n) (f ∷ fs) h = ap (λ (l : List Fingerprint). g f ∷ l) (suc_each n fs (le_of_suc-le-suc h))
+
+  pub each_more : (n : ℕ) (fs : List Fingerprint) → n < length fs → set (each g n fs) n (g (get_or (each g n fs) n d)) ≡ each g (n + 1) fs
+  each_more n fs h = rw add-one (suc_each n fs h)
+
+  -- those from place n on are as they were
+  pub each_at : (n : ℕ) (fs : List Fingerprint) → get_or (each g n fs) n d ≡ get_or fs n d
+  unfolding each
+  each_at zero fs = refl
+  each_at (suc n) [] = refl
+  each_at (suc n) (f ∷ fs) = each_at n fs
+
+pub each_length : (g : Fingerprint → Fingerprint) (n : ℕ) (fs : List Fingerprint) → length (each g n fs) ≡ length fs
+unfolding each
+each_length g zero fs = refl
+each_length g (suc n) [] = refl
+each_length g (suc n) (f ∷ fs) = ap suc (each_length g n fs)
 
 -- one fingerprint more that is asked
 pub hold_step : (due n : ℕ) (fs : List Fingerprint) (k : ℕ) (d : Fingerprint) → k < n → k < length fs

@@ -1,6 +1,5 @@
 -- The fingerprints of a session, as lists.
 use Rattle.std.specs.Prelude.{ℕ, zero, suc, List, [], ◌∷◌, ◌++◌, map, Bool, true, ◌&&◌, length, drop, replicate}
-use Rattle.laws.specs.Lists.{each}
 use Rattle.rates.specs.Mixes.{mix_listed}
 use Rattle.fingerprint.specs.declared.Fingerprint.{Fingerprint}
 use Rattle.fingerprint.specs.State.{fresh_of, holds_of, take_of}
@@ -16,6 +15,12 @@ all_listed (m ∷ ms) = mix_listed m && all_listed ms
 -- a fresh fingerprint for each mix type; the places after them have none
 unfoldable pub fresh_fingerprints : List ℕ → List Fingerprint
 fresh_fingerprints mixes = map fresh_of mixes ++ drop (length mixes) (replicate 32 (fresh_of 0))
+
+-- the first n of fs, each as g makes it
+unfoldable pub each : (Fingerprint → Fingerprint) → ℕ → List Fingerprint → List Fingerprint
+each g zero fs = fs
+each g (suc n) [] = []
+each g (suc n) (f ∷ fs) = g f ∷ each g n fs
 
 -- "An audio restart clears all fingerprints"
 unfoldable pub cleared : Fingerprint → Fingerprint

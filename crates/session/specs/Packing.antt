@@ -1,6 +1,5 @@
 -- Pack (01, The container, "Packing needs a ready frame .."; What a caller is told).
 use Rattle.std.specs.Prelude.{ℕ, ◌+◌, ◌%◌, List, Bool, cond, ◌||◌, eqb, length, get_or, replicate}
-use Rattle.laws.specs.Lists.{each}
 use Rattle.laws.specs.Calls.{unless}
 use Rattle.laws.specs.declared.Done.{Done}
 use Rattle.rates.specs.Cadence.{cadence, place_after}
@@ -11,7 +10,7 @@ use Rattle.session.specs.declared.Programme.{Programme}
 use Rattle.session.specs.declared.Session.{Session}
 use Rattle.session.specs.declared.Packed.{Packed}
 use Rattle.session.specs.declared.packing.Packing.{Packing}
-use Rattle.session.specs.Fingerprints.{shed, all_hold, prints_of, with_blanks}
+use Rattle.session.specs.Fingerprints.{each, shed, all_hold, prints_of, with_blanks}
 use Rattle.session.specs.Session.{is_set}
 
 -- "The ID part is present if 20 bytes are lent for it"

@@ -1,6 +1,5 @@
 -- A session and its calls but Pack (01, "What the card's software does", "What a caller is told"; 02, A3 and A9).
 use Rattle.std.specs.Prelude.{ℕ, List, [], Bool, false, cond, ◌&&◌, ◌||◌, leb, eqb, length, get_or, set}
-use Rattle.laws.specs.Lists.{each}
 use Rattle.laws.specs.Calls.{unless}
 use Rattle.rates.specs.Rates.{pairs_with, interval_of}
 use Rattle.picture.specs.declared.Picture.{Picture}
@@ -17,7 +16,7 @@ use Rattle.session.specs.declared.Session.{Session}
 use Rattle.session.specs.declared.Begun.{Begun}
 use Rattle.session.specs.declared.Lined.{Lined}
 use Rattle.session.specs.declared.Sounded.{Sounded}
-use Rattle.session.specs.Fingerprints.{all_listed, fresh_fingerprints, cleared}
+use Rattle.session.specs.Fingerprints.{each, all_listed, fresh_fingerprints, cleared}
 
 -- there is a session: a format with a rate that it takes, and 1 to 32 fingerprints
 unfoldable pub is_set : Settings → Bool

@@ -1,7 +1,6 @@
 // The fingerprints of a session, one after the other.
 ghost use Rattle.std.specs.Prelude.{◌≡◌, ◌≤◌, length};
-ghost use Rattle.laws.specs.Lists.{each};
-ghost use Rattle.session.specs.Fingerprints.{all_listed, fresh_fingerprints, cleared, all_hold, part_of, parts_of};
+ghost use Rattle.session.specs.Fingerprints.{each, all_listed, fresh_fingerprints, cleared, all_hold, part_of, parts_of};
 
 use container::Print;
 use fingerprint::Fingerprint;

@@ -1,7 +1,6 @@
 -- `bench_audio::all_in` meets its contract.
-use native.Mathlib.Nat.{div-zero, div-mul-le_self}
+use native.Mathlib.Nat.{div-zero}
 use lib.ListN.{length}
-use borrow.Author.Rules.{rules}
 use Rattle.bench_audio.specs.Instants.{instants_in, all_in}
 use Rattle.bench_audio.proofs.all_in.Goals as goal
 

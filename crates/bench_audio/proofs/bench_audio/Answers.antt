@@ -1,8 +1,6 @@
-use Prim.Native.Nat.{◌-◌, ◌≤◌, ◌<◌}
 use mathlib.Core.Path.{◌≡◌, ap, ◌∙◌}
 use native.Mathlib.Numerals.{add-one}
 use native.Mathlib.Omega.{arith}
-use borrow.Author.Rules.{rules}
 use Rattle.bench_audio.specs.declared.Turn.{Turn}
 use Rattle.bench_audio.specs.Turns.{next_turn, turns, sum_after}
 use Rattle.bench_audio.proofs.bench_audio.Goals as goal

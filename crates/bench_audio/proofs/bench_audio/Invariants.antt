@@ -1,11 +1,7 @@
 -- `bench_audio::bench_audio` meets its contract.
 use Prim.Native.Nat.{◌-◌, ◌≤◌, ◌<◌}
-use mathlib.Core.Path.{◌≡◌, ap, ◌∙◌}
-use native.Mathlib.Numerals.{add-one}
-use native.Mathlib.Omega.{arith}
-use borrow.Author.Rules.{rules}
-use Rattle.bench_audio.specs.declared.Turn.{Turn}
-use Rattle.bench_audio.specs.Turns.{next_turn, turns, sum_after}
+use mathlib.Core.Path.{◌≡◌}
+use Rattle.bench_audio.specs.Turns.{turns}
 use Rattle.bench_audio.proofs.bench_audio.Given as goal
 
 abbrev pub invariant-loop-i : goal.invariant-loop-i

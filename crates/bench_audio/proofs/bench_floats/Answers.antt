@@ -1,8 +1,6 @@
-use Prim.Native.Nat.{◌-◌, ◌≤◌, ◌<◌}
 use mathlib.Core.Path.{◌≡◌, ap, ◌∙◌}
 use native.Mathlib.Numerals.{add-one}
 use native.Mathlib.Omega.{arith}
-use borrow.Author.Rules.{rules}
 use Rattle.bench_audio.specs.declared.Turn.{Turn}
 use Rattle.bench_audio.specs.Turns.{taken_in}
 use Rattle.bench_audio.specs.Instants.{all_in, float_turns, float_sum_after}

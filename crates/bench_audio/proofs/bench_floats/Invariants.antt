@@ -1,12 +1,7 @@
 -- `bench_audio::bench_floats` meets its contract. The loop's invariant: what the turns passed give.
 use Prim.Native.Nat.{◌-◌, ◌≤◌, ◌<◌}
-use mathlib.Core.Path.{◌≡◌, ap, ◌∙◌}
-use native.Mathlib.Numerals.{add-one}
-use native.Mathlib.Omega.{arith}
-use borrow.Author.Rules.{rules}
-use Rattle.bench_audio.specs.declared.Turn.{Turn}
-use Rattle.bench_audio.specs.Turns.{taken_in}
-use Rattle.bench_audio.specs.Instants.{all_in, float_turns, float_sum_after}
+use mathlib.Core.Path.{◌≡◌}
+use Rattle.bench_audio.specs.Instants.{float_turns}
 use Rattle.bench_audio.proofs.bench_floats.Given as goal
 
 abbrev pub invariant-loop-i : goal.invariant-loop-i

@@ -1,7 +1,6 @@
 -- `bench_audio::block_in` meets its contract.
 use mathlib.Core.Path.{ap, ◌∙◌}
 use Rattle.bench_audio.specs.Turns.{taken_in, next_turn}
-use borrow.Author.Rules.{rules}
 use Rattle.bench_audio.proofs.block_in.Goals as goal
 
 pub returns : goal.returns

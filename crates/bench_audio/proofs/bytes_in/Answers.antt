@@ -1,6 +1,5 @@
 -- `bench_audio::bytes_in` meets its contract.
 use Rattle.bench_audio.specs.Turns.{bytes_in}
-use borrow.Author.Rules.{rules}
 use Rattle.bench_audio.proofs.bytes_in.Goals as goal
 
 pub returns : goal.returns

@@ -1,7 +1,6 @@
 -- `bench_audio::four_or_five` meets its contract.
 use mathlib.Core.Path.{sym, ◌∙◌}
 use Rattle.bench_audio.specs.Turns.{four_or_five}
-use borrow.Author.Rules.{rules}
 use Rattle.bench_audio.proofs.four_or_five.Goals as goal
 
 pub returns-then-holds : goal.returns-then-holds

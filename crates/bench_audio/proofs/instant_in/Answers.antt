@@ -1,6 +1,5 @@
 -- `bench_audio::instant_in` meets its contract.
 use mathlib.Core.Path.{sym, ◌∙◌}
-use borrow.Author.Rules.{rules}
 use borrow.Author.Tests.{eq-eqb, ne_eqb}
 use Rattle.bench_audio.specs.Instants.{instant_in}
 use Rattle.bench_audio.proofs.instant_in.Goals as goal

@@ -1,5 +1,4 @@
 -- `bench_audio::instant_of` meets its contract.
-use borrow.Author.Rules.{rules}
 use lib.Ieee.{of_bits}
 use borrow.Author.Tests.{le-leb, lt-leb, eq-eqb, ne_eqb}
 use Rattle.bench_audio.specs.Instants.{instant_of}

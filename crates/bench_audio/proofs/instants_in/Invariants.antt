@@ -1,13 +1,8 @@
 -- `bench_audio::instants_in` meets its contract. The loop's invariant: what the instants passed make.
-use Prim.Native.Nat.{ℕ, ◌+◌, ◌*◌, ◌-◌, ◌≤◌}
-use mathlib.Core.Path.{◌≡◌, refl, ap, ap₂, ◌∙◌}
-use native.Mathlib.Nat.{mul-le-mul_right}
-use native.Mathlib.Numerals.{add-one}
-use native.Mathlib.Omega.{arith}
-use borrow.Author.Rules.{rules}
-use lib.ListN.{length, drop}
-use Rattle.laws.proofs.Lists.{tail_part}
-use Rattle.bench_audio.specs.Instants.{instant_of, instant_in, instants_in}
+use Prim.Native.Nat.{◌*◌, ◌-◌, ◌≤◌}
+use mathlib.Core.Path.{◌≡◌}
+use lib.ListN.{length}
+use Rattle.bench_audio.specs.Instants.{instants_in}
 use Rattle.bench_audio.proofs.instants_in.Given as goal
 
 abbrev pub invariant-loop-i : goal.invariant-loop-i

@@ -5,7 +5,6 @@ use Rattle.fingerprint.specs.declared.Fingerprint.{Fingerprint}
 use Rattle.fingerprint.specs.declared.Taken.{Taken}
 use Rattle.fingerprint.specs.State.{take_of}
 use Rattle.bench_audio.specs.Turns.{bytes_in, four_or_five, taken_in}
-use borrow.Author.Rules.{rules}
 use Rattle.bench_audio.proofs.taken_in.Goals as goal
 
 pub returns : goal.returns

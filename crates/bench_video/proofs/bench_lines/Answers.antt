@@ -1,5 +1,5 @@
-use Prim.Native.Nat.{◌+◌, ◌-◌, ◌/◌, ◌%◌, ◌≤◌}
-use mathlib.Core.Path.{◌≡◌, refl, ap, ◌∙◌}
+use Prim.Native.Nat.{◌+◌, ◌-◌, ◌/◌, ◌%◌}
+use mathlib.Core.Path.{◌≡◌, refl, ◌∙◌}
 use mathlib.Core.Bool.{cond}
 use native.Mathlib.Omega.{arith}
 use native.Mathlib.Numerals.{add-one}
@@ -7,7 +7,6 @@ use borrow.Author.Rules.{rules}
 use borrow.Author.Tests.{lt-ltb, le-ltb}
 use lib.Dec.{ltb}
 use lib.ListN.{length}
-use Rattle.bench_video.specs.declared.After.{After}
 use Rattle.bench_video.specs.Bench.{half_at, after_lines}
 use Rattle.bench_video.proofs.bench_lines.Goals as goal
 use Rattle.bench_video.proofs.bench_lines.Goals.{Joined-i-lt2, then-i-lt2, else-i-lt2}
@@ -18,7 +17,7 @@ from_is :
     c.if-i-lt2.from ≡ cond (ltb (c.loop-i.i / 16 % 4) 2) 0 (n / 2)
 from_is c =
     elim c.if-i-lt2.branch [
-      then-i-lt2 w ↦ simp (lt-ltb _ _ w.if-i-lt2.true) w.from-is
+      | then-i-lt2 w ↦ simp (lt-ltb _ _ w.if-i-lt2.true) w.from-is
       | else-i-lt2 w ↦ simp (le-ltb _ _ w.if-i-lt2.false) w.from-is
     ]
 

@@ -1,5 +1,4 @@
 -- `bench_video::step` meets its contract.
-use borrow.Author.Rules.{rules}
 use Rattle.bench_video.specs.Bench.{step_of}
 use Rattle.bench_video.proofs.step.Goals as goal
 

@@ -5,14 +5,12 @@ use mathlib.Core.List.{List}
 use native.Mathlib.Omega.{arith}
 use lib.ListN.{length}
 use lib.Seq.{sets}
-use Rattle.laws.specs.declared.Done.{Done}
 use Rattle.laws.proofs.Lists.{sets_over}
 use Rattle.laws.proofs.Calls.{told_refused, told_short, told_ok}
 use Rattle.container.specs.declared.Reading.{Reading}
 use Rattle.container.specs.Reading.{reading}
 use Rattle.flat.specs.Flat.{flat}
 use Rattle.host.specs.Host.{flat_of, read_number, read_done, read_out}
-use borrow.Author.Rules.{rules}
 use Rattle.host.proofs.read_flat.Goals as goal
 use Rattle.host.proofs.read_flat.Goals.{After-flatten-flat, After-read_container-r, Else-number-ne0, Start}
 

@@ -1,11 +1,9 @@
 -- `session::audio_restart` meets its contract.
-use mathlib.Core.Path.{◌≡◌, sym, ap, ◌∙◌}
+use mathlib.Core.Path.{sym, ap, ◌∙◌}
 use mathlib.Core.List.{List}
-use borrow.Author.Tests.{not-true, not-false}
 use Rattle.fingerprint.specs.declared.Fingerprint.{Fingerprint}
 use Rattle.session.specs.declared.Session.{Session}
 use Rattle.session.proofs.Calls.{set_count, audio_same, audio_anew_lem}
-use borrow.Author.Rules.{rules}
 use Rattle.session.proofs.audio_restart.Goals as goal
 
 abbrev with : Session → List Fingerprint → Session

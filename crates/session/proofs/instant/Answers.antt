@@ -7,7 +7,6 @@ use Rattle.floats.specs.Instants.{float_value}
 use Rattle.fingerprint.specs.State.{step_of, instant_number}
 use Rattle.session.specs.Session.{no_fingerprint, instanted_number, instant_of}
 use Rattle.session.proofs.Calls.{unreached, within_32, refused_own, heard_own}
-use borrow.Author.Rules.{rules}
 use Rattle.session.proofs.instant.Goals as goal
 use Rattle.session.proofs.instant.Goals.{Else-reach-ne0}
 

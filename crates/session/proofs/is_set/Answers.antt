@@ -1,11 +1,9 @@
 -- `session::is_set` meets its contract: each answer by the tests that led to it.
 use mathlib.Core.Path.{◌≡◌, sym, ◌∙◌}
 use mathlib.Core.Bool.{true, false}
-use borrow.Author.Tests.{not-true, not-false}
 use Rattle.laws.proofs.Tests.{tests}
 use Rattle.rates.specs.Rates.{pairs_with}
 use Rattle.session.specs.Session.{is_set}
-use borrow.Author.Rules.{rules}
 use Rattle.session.proofs.is_set.Goals as goal
 use Rattle.session.proofs.is_set.Goals.{Else-not-pairs, Then-not-pairs}
 

@@ -1,8 +1,6 @@
 -- `session::line` meets its contract.
-use mathlib.Core.Path.{◌≡◌, sym, ◌∙◌}
-use borrow.Author.Tests.{not-true, not-false}
+use mathlib.Core.Path.{sym, ◌∙◌}
 use Rattle.session.proofs.Calls.{line_1, line_set}
-use borrow.Author.Rules.{rules}
 use Rattle.session.proofs.line.Goals as goal
 
 pub returns-then-not-is_set : goal.returns-then-not-is_set

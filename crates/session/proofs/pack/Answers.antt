@@ -1,17 +1,14 @@
 -- `session::pack` meets its contract.
 use Prim.Native.Nat.{ℕ, ◌≤◌}
-use mathlib.Core.Path.{◌≡◌, refl, sym, ap, ◌∙◌}
+use mathlib.Core.Path.{◌≡◌, sym, ap, ◌∙◌}
 use mathlib.Core.List.{List}
 use lib.ListN.{length}
-use Rattle.laws.specs.declared.Done.{Done}
 use Rattle.container.specs.declared.Contents.{Contents}
 use Rattle.container.specs.Writing.{write_done, write_out}
 use Rattle.session.specs.declared.Session.{Session}
-use Rattle.session.specs.declared.Packed.{Packed}
 use Rattle.session.specs.declared.packing.Packing.{Packing}
-use Rattle.session.specs.Packing.{pack_number, contents_of, packing_of, refused_with, session_after, pack_of, pack_out}
+use Rattle.session.specs.Packing.{pack_number, contents_of, packing_of, refused_with}
 use Rattle.session.proofs.Calls.{set_count, pack_set, pack_refused, pack_short, pack_0, pack_out_lem}
-use borrow.Author.Rules.{rules}
 use Rattle.session.proofs.pack.Goals as goal
 use Rattle.session.proofs.pack.Goals.{After-write_container-done, Else-number-ne0}
 

@@ -3,12 +3,9 @@ use borrow.Author.Tests.{eq-eqb, ne_eqb}
 use Rattle.session.proofs.Calls.{pack_fits, pack_11}
 use mathlib.Core.Path.{◌≡◌, sym, ◌∙◌}
 use mathlib.Core.Bool.{true, false}
-use borrow.Author.Tests.{not-true, not-false}
-use Rattle.laws.proofs.Tests.{tests}
 use Rattle.picture.specs.Pictures.{is_ready}
 use Rattle.session.specs.Session.{is_set}
 use Rattle.session.specs.Packing.{ready_number, pack_number}
-use borrow.Author.Rules.{rules}
 use Rattle.session.proofs.pack_number.Goals as goal
 use Rattle.session.proofs.pack_number.Goals.{Else-not-is_ready, Else-not-is_set, Then-not-is_ready, Then-not-is_set}
 

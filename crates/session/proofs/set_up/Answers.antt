@@ -1,5 +1,5 @@
 -- `session::set_up` meets its contract.
-use mathlib.Core.Path.{◌≡◌, ap, ◌∙◌}
+use mathlib.Core.Path.{ap, ◌∙◌}
 use mathlib.Core.List.{List}
 use Rattle.picture.specs.declared.Picture.{Picture}
 use Rattle.picture.specs.Pictures.{fresh_picture}
@@ -7,7 +7,6 @@ use Rattle.fingerprint.specs.declared.Fingerprint.{Fingerprint}
 use Rattle.session.specs.declared.Settings.{Settings}
 use Rattle.session.specs.declared.Session.{Session}
 use Rattle.session.specs.Session.{set_up_with}
-use borrow.Author.Rules.{rules}
 use Rattle.session.proofs.set_up.Goals as goal
 
 abbrev with : Settings → Picture → List Fingerprint → Session

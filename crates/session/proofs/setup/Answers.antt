@@ -1,13 +1,12 @@
 -- `session::setup` meets its contract.
 use Prim.Native.Nat.{ℕ, ◌≤◌}
-use mathlib.Core.Path.{◌≡◌, sym, ap, ◌∙◌}
+use mathlib.Core.Path.{sym, ap, ◌∙◌}
 use native.Mathlib.Omega.{arith}
 use lib.ListN.{length}
 use Rattle.session.specs.declared.Session.{Session}
 use Rattle.session.specs.declared.Begun.{Begun}
-use Rattle.session.specs.Session.{setup_number, set_up_with, empty_session}
+use Rattle.session.specs.Session.{empty_session}
 use Rattle.session.proofs.Calls.{setup_0, setup_1, setup_few}
-use borrow.Author.Rules.{rules}
 use Rattle.session.proofs.setup.Goals as goal
 use Rattle.session.proofs.setup.Goals.{Else-number-ne0}
 

@@ -1,12 +1,10 @@
 -- `session::setup_number` meets its contract: each answer by the tests that led to it.
 use mathlib.Core.Path.{◌≡◌, sym, ◌∙◌}
 use mathlib.Core.Bool.{true, false}
-use borrow.Author.Tests.{not-true, not-false}
 use Rattle.laws.proofs.Tests.{tests}
 use Rattle.rates.specs.Rates.{pairs_with}
 use Rattle.session.specs.Fingerprints.{all_listed}
 use Rattle.session.specs.Session.{rule_listed, setup_number}
-use borrow.Author.Rules.{rules}
 use Rattle.session.proofs.setup_number.Goals as goal
 use Rattle.session.proofs.setup_number.Goals.{Else-all_listed, Else-not-pairs, Else-not-rule_listed, Then-all_listed, Then-not-pairs, Then-not-rule_listed}
 

@@ -6,7 +6,6 @@ use lib.ListN.{length, get_or}
 use Rattle.fingerprint.specs.State.{heard_of, sound_number}
 use Rattle.session.specs.Session.{no_fingerprint, sounded_number, sound_of}
 use Rattle.session.proofs.Calls.{unreached, within_32, refused_own, heard_own}
-use borrow.Author.Rules.{rules}
 use Rattle.session.proofs.sound.Goals as goal
 use Rattle.session.proofs.sound.Goals.{Else-reach-ne0}
 

@@ -1,8 +1,6 @@
 -- `session::video_restart` meets its contract.
-use mathlib.Core.Path.{◌≡◌, sym, ◌∙◌}
-use borrow.Author.Tests.{not-true, not-false}
+use mathlib.Core.Path.{sym, ◌∙◌}
 use Rattle.session.proofs.Calls.{video_same, video_anew}
-use borrow.Author.Rules.{rules}
 use Rattle.session.proofs.video_restart.Goals as goal
 
 pub returns-then-not-is_set : goal.returns-then-not-is_set

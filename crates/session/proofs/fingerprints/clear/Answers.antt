@@ -1,15 +1,12 @@
 use lib.ListN.{get_or}
-use Rattle.laws.proofs.Lists.{each_more}
-use Rattle.laws.specs.Lists.{each}
+use Rattle.session.proofs.Lists.{each_more}
 use Rattle.session.specs.Session.{no_fingerprint}
-use Prim.Native.Nat.{ℕ, ◌-◌, ◌≤◌}
-use mathlib.Core.Path.{◌≡◌, refl, ap, ◌∙◌}
+use mathlib.Core.Path.{refl, ap, ◌∙◌}
 use mathlib.Core.List.{List}
 use native.Mathlib.Omega.{arith}
-use borrow.Author.Rules.{rules}
-use lib.ListN.{length, set}
+use lib.ListN.{set}
 use Rattle.fingerprint.specs.declared.Fingerprint.{Fingerprint}
-use Rattle.session.specs.Fingerprints.{cleared}
+use Rattle.session.specs.Fingerprints.{each, cleared}
 use Rattle.session.proofs.fingerprints.clear.Goals as goal
 
 pub loop-k-init : goal.loop-k-init

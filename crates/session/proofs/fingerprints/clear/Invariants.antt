@@ -1,16 +1,8 @@
 -- `session::fingerprints::clear` meets its contract. The loop's invariant: the fingerprints so far are done.
-use lib.ListN.{get_or}
-use Rattle.laws.proofs.Lists.{each_more}
-use Rattle.laws.specs.Lists.{each}
-use Rattle.session.specs.Session.{no_fingerprint}
-use Prim.Native.Nat.{ℕ, ◌-◌, ◌≤◌}
-use mathlib.Core.Path.{◌≡◌, refl, ap, ◌∙◌}
-use mathlib.Core.List.{List}
-use native.Mathlib.Omega.{arith}
-use borrow.Author.Rules.{rules}
-use lib.ListN.{length, set}
-use Rattle.fingerprint.specs.declared.Fingerprint.{Fingerprint}
-use Rattle.session.specs.Fingerprints.{cleared}
+use Prim.Native.Nat.{◌-◌, ◌≤◌}
+use mathlib.Core.Path.{◌≡◌}
+use lib.ListN.{length}
+use Rattle.session.specs.Fingerprints.{each, cleared}
 use Rattle.session.proofs.fingerprints.clear.Given as goal
 
 abbrev pub invariant-loop-k : goal.invariant-loop-k

@@ -1,16 +1,9 @@
 -- `session::fingerprints::fresh_fingerprints` meets its contract. The loop's invariant: the fingerprints so far are fresh.
-use Prim.Native.Nat.{ℕ, ◌+◌, ◌-◌, ◌≤◌, ◌<◌}
-use mathlib.Core.Path.{◌≡◌, refl, sym, ap, ◌∙◌}
-use mathlib.Core.List.{List, ◌++◌, map}
-use native.Mathlib.Omega.{arith}
-use borrow.Author.Rules.{rules}
-use lib.ListN.{length, set, take, drop, replicate, length-map}
-use lib.Seq.{take_all}
-use Rattle.fingerprint.specs.declared.Fingerprint.{Fingerprint}
+use Prim.Native.Nat.{◌-◌, ◌≤◌}
+use mathlib.Core.Path.{◌≡◌}
+use mathlib.Core.List.{◌++◌, map}
+use lib.ListN.{length, take, drop, replicate}
 use Rattle.fingerprint.specs.State.{fresh_of}
-use Rattle.container.proofs.Runs.{fill_step}
-use Rattle.session.specs.Fingerprints.{fresh_fingerprints}
-use Rattle.session.proofs.Lists.{fresh_at}
 use Rattle.session.proofs.fingerprints.fresh_fingerprints.Given as goal
 
 abbrev pub invariant-loop-k : goal.invariant-loop-k

@@ -1,13 +1,9 @@
 -- `session::fingerprints::say` meets its contract.
 use Prim.Native.Nat.{ℕ}
-use mathlib.Core.Path.{◌≡◌, ap, ◌∙◌}
-use mathlib.Core.List.{List}
-use Rattle.container.specs.declared.Print.{Print}
-use Rattle.fingerprint.specs.declared.Fingerprint.{Fingerprint}
+use mathlib.Core.Path.{ap, ◌∙◌}
 use Rattle.fingerprint.specs.declared.Taken.{Taken}
 use Rattle.session.specs.declared.fingerprints.Part.{Part}
 use Rattle.session.specs.Fingerprints.{print_of, shed, part_of}
-use borrow.Author.Rules.{rules}
 use Rattle.session.proofs.fingerprints.say.Goals as goal
 
 abbrev with : ℕ → ℕ → ℕ → Taken → Part

@@ -1,7 +1,6 @@
 -- `session::packing::counter_after` meets its contract.
-use mathlib.Core.Path.{◌≡◌, refl}
+use mathlib.Core.Path.{refl}
 use Rattle.session.specs.Packing.{counter_after}
-use borrow.Author.Rules.{rules}
 use Rattle.session.proofs.packing.counter_after.Goals as goal
 
 pub returns : goal.returns

@@ -1,14 +1,13 @@
 -- `session::packing::id_bytes` meets its contract.
 use Prim.Native.Nat.{ℕ}
 use mathlib.Core.List.{List, append-nil}
-use mathlib.Core.Path.{◌≡◌, refl, sym, ◌∙◌}
+use mathlib.Core.Path.{◌≡◌, ◌∙◌}
 use native.Mathlib.Omega.{arith}
 use borrow.Author.Tests.{eq-eqb, ne_eqb}
 use lib.ListN.{length, replicate}
 use Rattle.laws.specs.Calls.{over}
 use Rattle.laws.proofs.Lists.{sets_over}
 use Rattle.session.specs.Packing.{id_of}
-use borrow.Author.Rules.{rules}
 use Rattle.session.proofs.packing.id_bytes.Goals as goal
 
 pub returns-then-id-ne20 : goal.returns-then-id-ne20

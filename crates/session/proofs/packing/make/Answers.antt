@@ -1,12 +1,10 @@
 -- `session::packing::make` meets its contract.
-use Prim.Native.Nat.{ℕ, ◌≤◌}
-use mathlib.Core.Path.{◌≡◌, sym, ◌∙◌}
+use Prim.Native.Nat.{ℕ}
+use mathlib.Core.Path.{◌≡◌}
 use mathlib.Core.Bool.{Bool}
 use mathlib.Core.List.{List}
-use native.Mathlib.Omega.{arith}
 use lib.Dec.{eqb}
 use lib.ListN.{length}
-use Rattle.laws.proofs.Tests.{chosen}
 use Rattle.picture.specs.declared.Handed.{Handed}
 use Rattle.picture.specs.Pictures.{handed_out}
 use Rattle.session.specs.declared.Session.{Session}
@@ -14,7 +12,6 @@ use Rattle.session.specs.declared.fingerprints.Parts.{Parts}
 use Rattle.session.specs.declared.packing.Packing.{Packing}
 use Rattle.session.specs.Fingerprints.{all_hold, parts_of}
 use Rattle.session.specs.Packing.{id_of, due_of, has_audio, spoken_with, spoken_of, contents_of, counter_after, place_with, place_from, session_after, packing_of}
-use borrow.Author.Rules.{rules}
 use Rattle.session.proofs.packing.make.Goals as goal
 
 -- what the pieces make, whatever made them
