@@ -9,7 +9,7 @@ use answers::{Answer, Cause};
 
 // Reads the next record of an open file into the front of bytes, and answers how many bytes of it there are: fewer than it has where the file ends first.
 // Of a record that bytes has no room for only the tag and the length are read, so that it counts as cut short.
-pub fn read_record(fd: i32, bytes: &mut [u8]) -> usize
+pub fn read_record_from(fd: i32, bytes: &mut [u8]) -> usize
     ensures { Took bytes.old bytes.new result }
 {
     if bytes.len() < 3 {
@@ -24,6 +24,13 @@ pub fn read_record(fd: i32, bytes: &mut [u8]) -> usize
         return 3;
     }
     3 + io::read_full(fd, &mut bytes[3..end])
+}
+
+// Reads the next record of standard input.
+pub fn read_record(bytes: &mut [u8]) -> usize
+    ensures { Took bytes.old bytes.new result }
+{
+    read_record_from(0, bytes)
 }
 
 // How much of a line of so many bytes is shown.

@@ -45,7 +45,7 @@ fn judge_fields(fd: i32, bytes: &mut [u8], lines: &mut [u8]) -> Report
     let mut left: u32 = 501;
     while 0 < left {
         left -= 1;
-        let read = intake::read_record(fd, bytes);
+        let read = intake::read_record_from(fd, bytes);
         report = judging::report::field(report, &bytes[..read], lines);
         if read == 0 {
             return report;

@@ -32,7 +32,7 @@ fn line_room() -> [u8; 8256]
 fn answer_next(r: Receiver, bytes: &mut [u8], line: &mut [u8]) -> Turn
     requires { length line.old ≡ 8256 }
 {
-    let read = intake::read_record(0, bytes);
+    let read = intake::read_record(bytes);
     let fed = receive_feed::next(r, &bytes[..read], line);
     let size = fed.size;
     io::write_all(1, &line[..size]);

@@ -1,11 +1,11 @@
--- `intake::read_record` lends no more of its buffer than the record has.
+-- `intake::read_record_from` lends no more of its buffer than the record has.
 use Rattle.std.proofs.Common.{◌≡◌, ◌+◌, ◌-◌, ◌≤◌, ◌++◌, length, drop, arith}
 use mathlib.Core.Path.{◌∙◌}
 use lib.ListN.{length-append, length-drop}
 use lib.Seq.{length-take-le}
 use Rattle.records.specs.Records.{pair_at}
 use Rattle.intake.proofs.Reading.{payload_took}
-use Rattle.intake.proofs.read_record.Goals as goal
+use Rattle.intake.proofs.read_record_from.Goals as goal
 
 -- where the record and its payload are read
 pub returns : goal.returns
