@@ -200,7 +200,7 @@ module _ (u : Setup) (a : accepted u ≡ true) (before : List Event) where
       n = o.n;
       on = s ∙ o.on;
       own = rw (p, m) o.own;
-      clean_so_far = rw p o.clean-so-far;
+      clean_so_far = rw p o.clean_so_far;
       short = rw p o.short;
     }
 
@@ -275,7 +275,7 @@ module _ (u : Setup) (a : accepted u ≡ true) (before : List Event) where
 
     still_clean : is_clean (packet_of container ∷ packets during) ≡ true
     unfolding is_clean faults_of
-    still_clean = rw (o.clean-so-far, taken, says_contents) (no_fault u l (made es) (sounded u before) o.n cs o.own audio contents next)
+    still_clean = rw (o.clean_so_far, taken, says_contents) (no_fault u l (made es) (sounded u before) o.n cs o.own audio contents next)
 
     moved_on : sounded u (event ∷ es) ≡ sounded u before + cond audio (suc o.n) o.n
     unfolding sounded sounded_at
@@ -319,7 +319,7 @@ module _ (u : Setup) (a : accepted u ≡ true) (before : List Event) where
   pub own_clean : (during : List Event) {t : Session} → Run (fresh u) (during ++ before) t → Unbroken during
       → 1 ≤ length (packets during) → length (packets during) ≤ 500 → judged_text (file_of (packets during)) ≡ clean
   unfolding report_of
-  own_clean during r w some few = let o = runs during r w in of_packets (packets during) o.short some few ∙ rw o.clean-so-far refl
+  own_clean during r w some few = let o = runs during r w in of_packets (packets during) o.short some few ∙ rw o.clean_so_far refl
 
   -- and that is all that is printed of it
   pub own_printed : (during : List Event) {t : Session} → Run (fresh u) (during ++ before) t → Unbroken during

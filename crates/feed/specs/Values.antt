@@ -4,7 +4,6 @@ use Rattle.std.specs.Float.{binary32}
 use Rattle.std.specs.Float.Ieee.{of_bits}
 use Rattle.records.specs.Records.{byte_at}
 use Rattle.rates.specs.Mixes.{mix_listed}
-use Rattle.floats.specs.declared.Five.{Five}
 use Rattle.floats.specs.declared.Instant.{Instant}
 use Rattle.floats.specs.declared.Instant.TheVariants as instant
 use Rattle.answers.specs.declared.Cause.TheVariants.{TooShort, TooLong, OtherKind}

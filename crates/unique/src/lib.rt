@@ -1,3 +1,2 @@
 // Theorems about public functions, in proofs/; there is no code here.
 #![tactic(auto)]
-

@@ -11,7 +11,6 @@ use Rattle.records.proofs.Within.{whole_within}
 use Rattle.session.specs.declared.Session.{Session}
 use Rattle.feed.specs.Feed.{record_fed, front}
 use Rattle.feed.proofs.Steps.{does_as}
-use borrow.Author.Rules.{rules}
 use Rattle.feed.proofs.answer_front.Goals as goal
 use Rattle.feed.proofs.answer_front.Goals.{In-Whole}
 

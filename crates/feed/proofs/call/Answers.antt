@@ -4,7 +4,6 @@ use borrow.Author.Tests.{lt-ltb, le-ltb}
 use Rattle.answers.specs.declared.Answer.{Answer}
 use Rattle.feed.specs.declared.Answered.{Answered}
 use Rattle.feed.specs.Feed.{fed, leaves}
-use borrow.Author.Rules.{rules}
 use Rattle.feed.proofs.call.Goals as goal
 
 pub returns-then-tag-lt32 : goal.returns-then-tag-lt32

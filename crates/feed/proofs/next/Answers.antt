@@ -11,7 +11,6 @@ use Rattle.answers.proofs.Sizes.{quiet_said}
 use Rattle.feed.specs.Feed.{step_line, line_next, front, fed_of}
 use Rattle.feed.proofs.Kept.{quiet}
 use Rattle.feed.proofs.Sizes.{next_fits}
-use borrow.Author.Rules.{rules}
 use Rattle.feed.proofs.next.Goals as goal
 
 pub returns : goal.returns

@@ -2,7 +2,6 @@
 use mathlib.Core.Path.{ap}
 use Rattle.session.specs.declared.Begun.{Begun}
 use Rattle.feed.specs.Feed.{opening}
-use borrow.Author.Rules.{rules}
 use Rattle.feed.proofs.open.Goals as goal
 
 pub returns : goal.returns

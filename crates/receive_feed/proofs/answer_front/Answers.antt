@@ -11,7 +11,6 @@ use Rattle.records.proofs.Within.{whole_within}
 use Rattle.receiving.specs.declared.Receiver.{Receiver}
 use Rattle.receive_feed.specs.Feed.{record_fed, front}
 use Rattle.receive_feed.proofs.Kept.{does_as}
-use borrow.Author.Rules.{rules}
 use Rattle.receive_feed.proofs.answer_front.Goals as goal
 use Rattle.receive_feed.proofs.answer_front.Goals.{In-Whole}
 

@@ -1,7 +1,6 @@
 -- `receive_feed::arrive` meets its contract.
 use mathlib.Core.Path.{ap}
 use Rattle.receive_feed.specs.Feed.{arrived, arrive_fed}
-use borrow.Author.Rules.{rules}
 use Rattle.receive_feed.proofs.arrive.Goals as goal
 
 pub returns : goal.returns

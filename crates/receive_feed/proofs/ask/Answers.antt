@@ -5,7 +5,6 @@ use lib.ListN.{length}
 use Rattle.answers.proofs.Rooms.{Roomed, roomed}
 use Rattle.receive_feed.specs.Feed.{done_of, asked, next_in, next_fed}
 use Rattle.receive_feed.proofs.Kept.{nexts}
-use borrow.Author.Rules.{rules}
 use Rattle.receive_feed.proofs.ask.Goals as goal
 use Rattle.receive_feed.proofs.ask.Goals.{In-Of}
 

@@ -4,7 +4,6 @@ use borrow.Author.Tests.{lt-ltb, le-ltb}
 use lib.ListN.{length}
 use Rattle.records.specs.Records.{byte_at}
 use Rattle.receive_feed.specs.Feed.{fresh_fed}
-use borrow.Author.Rules.{rules}
 use Rattle.receive_feed.proofs.begin.Goals as goal
 
 pub returns-then-payload-lt1 : goal.returns-then-payload-lt1

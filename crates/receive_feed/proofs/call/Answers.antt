@@ -1,7 +1,6 @@
 -- `receive_feed::call` meets its contract, tag by tag.
 use borrow.Author.Tests.{eq-eqb, ne_eqb}
 use Rattle.receive_feed.specs.Feed.{fed}
-use borrow.Author.Rules.{rules}
 use Rattle.receive_feed.proofs.call.Goals as goal
 
 pub returns-then-tag-eq48 : goal.returns-then-tag-eq48

@@ -2,7 +2,6 @@
 use borrow.Author.Tests.{eq-eqb, ne_eqb}
 use lib.ListN.{length}
 use Rattle.receive_feed.specs.Feed.{give_up_fed}
-use borrow.Author.Rules.{rules}
 use Rattle.receive_feed.proofs.give_up.Goals as goal
 
 pub returns-then-payload-ne0 : goal.returns-then-payload-ne0

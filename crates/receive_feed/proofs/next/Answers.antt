@@ -10,7 +10,6 @@ use Rattle.answers.specs.Lines.{said_of, line_of}
 use Rattle.answers.proofs.Sizes.{quiet_said}
 use Rattle.receive_feed.specs.Feed.{step_line, line_next, front, fed_of}
 use Rattle.receive_feed.proofs.Kept.{quiet, next_fits}
-use borrow.Author.Rules.{rules}
 use Rattle.receive_feed.proofs.next.Goals as goal
 
 pub returns : goal.returns

@@ -1,6 +1,5 @@
 -- `receive_feed::open` meets its contract.
 use Rattle.receive_feed.specs.Feed.{opening}
-use borrow.Author.Rules.{rules}
 use Rattle.receive_feed.proofs.open.Goals as goal
 
 pub returns : goal.returns

@@ -2,7 +2,6 @@
 use mathlib.Core.Path.{refl}
 use borrow.Author.Tests.{eq-eqb, ne_eqb, lt-ltb, le-ltb}
 use Rattle.feed.specs.Alone.{alone_fed}
-use borrow.Author.Rules.{rules}
 use Rattle.feed.proofs.alone.alone.Goals as goal
 
 pub returns-then-tag-eq32 : goal.returns-then-tag-eq32

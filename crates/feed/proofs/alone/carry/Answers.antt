@@ -4,7 +4,6 @@ use borrow.Author.Tests.{eq-eqb, ne_eqb}
 use Rattle.answers.specs.declared.Hand.TheVariants.{Wrap, Unwrap, Stream, Unstream, Mend}
 use Rattle.answers.specs.declared.Answer.TheVariants.{Handed}
 use Rattle.feed.specs.Alone.{carried_fed}
-use borrow.Author.Rules.{rules}
 use Rattle.feed.proofs.alone.carry.Goals as goal
 
 pub returns-then-tag-eq35 : goal.returns-then-tag-eq35

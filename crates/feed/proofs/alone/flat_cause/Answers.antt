@@ -2,7 +2,6 @@
 use Rattle.laws.proofs.Tests.{tests}
 use Rattle.records.specs.Records.{byte_at}
 use Rattle.feed.specs.Alone.{flat_cause}
-use borrow.Author.Rules.{rules}
 use Rattle.feed.proofs.alone.flat_cause.Goals as goal
 
 pub returns-then-bytes-lt283 : goal.returns-then-bytes-lt283

@@ -4,7 +4,6 @@ use native.Mathlib.Omega.{arith}
 use Rattle.laws.proofs.Lists.{tail_part}
 use Rattle.answers.proofs.Rooms.{Roomed, roomed}
 use Rattle.feed.proofs.Steps.{gives_as, room_none, lends}
-use borrow.Author.Rules.{rules}
 use Rattle.feed.proofs.alone.in_room.Goals as goal
 use Rattle.feed.proofs.alone.in_room.Goals.{In-Of}
 

@@ -4,7 +4,6 @@ use borrow.Author.Tests.{eq-eqb, ne_eqb}
 use Rattle.answers.specs.declared.Hand.TheVariants.{Rewrite}
 use Rattle.answers.specs.declared.Answer.TheVariants.{Handed}
 use Rattle.feed.specs.Alone.{lent_fed}
-use borrow.Author.Rules.{rules}
 use Rattle.feed.proofs.alone.lend.Goals as goal
 
 pub returns-then-tag-eq34 : goal.returns-then-tag-eq34

@@ -12,7 +12,6 @@ use Rattle.answers.specs.declared.Answer.TheVariants.{Reported}
 use Rattle.answers.specs.Lines.{fresh}
 use Rattle.feed.specs.Alone.{read_fed}
 use Rattle.answers.proofs.Watch.{untouched_size}
-use borrow.Author.Rules.{rules}
 use Rattle.feed.proofs.alone.read.Goals as goal
 
 pub returns : goal.returns

@@ -9,13 +9,13 @@ use Rattle.container.specs.declared.Reading.{Reading}
 use Rattle.container.specs.Reading.{reading}
 use Rattle.container.specs.Writing.{write_done, write_out}
 use Rattle.feed.specs.Alone.{rewrite_done, rewrite_out}
-use borrow.Author.Rules.{rules}
 use Rattle.feed.proofs.alone.rewrite.Goals as goal
 
 module _ (bytes lent : List ℕ) (r : Reading) (e : r ≡ reading bytes) where
   accepted : r.number ≡ 0 → (write_done r.contents (length lent) ≡ rewrite_done bytes (length lent)) × (write_out r.contents lent ≡ rewrite_out bytes lent)
   unfolding rewrite_done rewrite_out
   accepted h = rw (← e, eq-eqb r.number 0 h) (refl, refl)
+
   refused : (r.number ≡ 0 → ⊥) → (◌≡◌ {A = Done} (record { number = r.number; written = 0 }) (rewrite_done bytes (length lent))) × (lent ≡ rewrite_out bytes lent)
   unfolding rewrite_done rewrite_out
   refused h = rw (← e, ne_eqb r.number 0 h) (refl, refl)

@@ -5,7 +5,6 @@ use Rattle.records.specs.Records.{byte_at}
 use Rattle.laws.proofs.Lists.{tail_part}
 use Rattle.answers.proofs.Rooms.{Roomed, roomed}
 use Rattle.feed.proofs.Steps.{gives_as, sample_none, samples}
-use borrow.Author.Rules.{rules}
 use Rattle.feed.proofs.alone.sample.Goals as goal
 use Rattle.feed.proofs.alone.sample.Goals.{In-Of}
 

@@ -3,7 +3,6 @@ use Prim.Native.Nat.{ℕ}
 use mathlib.Core.Path.{◌≡◌, refl, ap}
 use mathlib.Core.List.{List}
 use mathlib.Core.Bool.{true, false}
-use borrow.Author.Tests.{not-true, not-false}
 use lib.ListN.{length}
 use Rattle.container.specs.Writing.{write_done, write_out}
 use Rattle.flat.specs.declared.Unflat.{Unflat}
@@ -12,13 +11,13 @@ use Rattle.answers.specs.declared.Hand.TheVariants.{Write}
 use Rattle.answers.specs.declared.Answer.TheVariants.{Handed, Bad}
 use Rattle.feed.specs.Alone.{reply, flat_cause, write_lent}
 use Rattle.feed.proofs.Steps.{gives_as}
-use borrow.Author.Rules.{rules}
 use Rattle.feed.proofs.alone.write.Goals as goal
 
 module _ (bytes lent : List ℕ) (u : Unflat) (e : u ≡ unflat bytes) where
   no_contents : u.ok ≡ false → reply (Bad (flat_cause bytes)) lent ≡ write_lent bytes lent
   unfolding write_lent
   no_contents h = rw (← e, h)
+
   some_contents : u.ok ≡ true → reply (Handed Write (write_done u.contents (length lent))) (write_out u.contents lent) ≡ write_lent bytes lent
   unfolding write_lent
   some_contents h = rw (← e, h)

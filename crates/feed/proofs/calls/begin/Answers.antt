@@ -1,7 +1,6 @@
 -- `feed::calls::begin` meets its contract.
 use mathlib.Core.Path.{ap}
 use Rattle.feed.specs.Calls.{begun}
-use borrow.Author.Rules.{rules}
 use Rattle.feed.proofs.calls.begin.Goals as goal
 
 pub returns : goal.returns

@@ -1,12 +1,10 @@
 -- `feed::calls::instant` meets its contract: the record brings no instant, or the call was made with it.
 use Prim.Native.Nat.{◌<◌}
 use mathlib.Core.Path.{sym, ap, ◌∙◌}
-use native.Mathlib.Omega.{arith}
 use lib.ListN.{length}
 use Rattle.records.specs.Records.{byte_at}
 use Rattle.feed.specs.Calls.{instanted, instant_with, instant_fed}
 use Rattle.feed.proofs.Instants.{brought_some}
-use borrow.Author.Rules.{rules}
 use Rattle.feed.proofs.calls.instant.Goals as goal
 use Rattle.feed.proofs.calls.instant.Goals.{In-Of}
 

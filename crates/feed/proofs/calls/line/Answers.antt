@@ -6,7 +6,6 @@ use Rattle.session.specs.Session.{line_of}
 use Rattle.feed.specs.Calls.{lined, line_fed}
 use Rattle.laws.proofs.Lists.{tail_part}
 use Rattle.feed.proofs.Steps.{when_enough, when_short}
-use borrow.Author.Rules.{rules}
 use Rattle.feed.proofs.calls.line.Goals as goal
 
 pub returns-then-payload-lt2 : goal.returns-then-payload-lt2

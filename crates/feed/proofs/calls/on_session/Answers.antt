@@ -4,7 +4,6 @@ use borrow.Author.Tests.{eq-eqb, ne_eqb}
 use Rattle.session.specs.declared.Session.{Session}
 use Rattle.answers.specs.declared.Answer.TheVariants.{VideoRestart, AudioRestart}
 use Rattle.feed.specs.Calls.{restart_fed, session_fed}
-use borrow.Author.Rules.{rules}
 use Rattle.feed.proofs.calls.on_session.Goals as goal
 
 pub returns-then-tag-eq16 : goal.returns-then-tag-eq16

@@ -5,7 +5,6 @@ use Rattle.feed.specs.Calls.{done_of, packed}
 use Rattle.laws.proofs.Lists.{tail_part}
 use Rattle.answers.proofs.Rooms.{Roomed, roomed}
 use Rattle.feed.proofs.Steps.{does_as, pack_none, packs}
-use borrow.Author.Rules.{rules}
 use Rattle.feed.proofs.calls.pack.Goals as goal
 use Rattle.feed.proofs.calls.pack.Goals.{In-Of}
 

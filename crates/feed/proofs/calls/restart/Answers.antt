@@ -1,7 +1,6 @@
 -- `feed::calls::restart` meets its contract.
 use borrow.Author.Tests.{eq-eqb, ne_eqb}
 use Rattle.feed.specs.Calls.{restart_fed}
-use borrow.Author.Rules.{rules}
 use Rattle.feed.proofs.calls.restart.Goals as goal
 
 pub returns-then-payload-ne0 : goal.returns-then-payload-ne0

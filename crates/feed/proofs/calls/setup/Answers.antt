@@ -8,7 +8,6 @@ use Rattle.session.specs.Session.{setup_of}
 use Rattle.feed.specs.Calls.{begun, setup_fed}
 use Rattle.laws.proofs.Lists.{tail_part}
 use Rattle.feed.proofs.Steps.{when_enough, when_short}
-use borrow.Author.Rules.{rules}
 use Rattle.feed.proofs.calls.setup.Goals as goal
 
 pub returns-then-payload-lt2 : goal.returns-then-payload-lt2

@@ -1,13 +1,11 @@
 -- `feed::calls::sound` meets its contract.
 use mathlib.Core.Path.{ap, ◌∙◌}
-use native.Mathlib.Omega.{arith}
 use lib.ListN.{length, get_or}
 use Rattle.records.specs.Records.{byte_at}
 use Rattle.session.specs.Session.{sound_of}
 use Rattle.feed.specs.Calls.{sounded, sound_fed}
 use Rattle.laws.proofs.Lists.{tail_part}
 use Rattle.feed.proofs.Steps.{when_enough, when_short}
-use borrow.Author.Rules.{rules}
 use Rattle.feed.proofs.calls.sound.Goals as goal
 
 pub returns-then-payload-lt1 : goal.returns-then-payload-lt1

@@ -1,10 +1,7 @@
 -- `feed::values::bits_at` meets its contract: four bytes fit 32 bits.
-use Prim.Native.Nat.{◌+◌}
 use mathlib.Core.Path.{refl}
-use native.Mathlib.Omega.{arith}
 use Rattle.records.specs.Records.{byte_at}
 use Rattle.feed.specs.Values.{bits_at}
-use borrow.Author.Rules.{rules}
 use Rattle.feed.proofs.values.bits_at.Goals as goal
 
 pub returns : goal.returns

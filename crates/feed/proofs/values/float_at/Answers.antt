@@ -4,7 +4,6 @@ use native.Mathlib.Omega.{arith}
 use lib.Ieee.{nan, binary32, div, of_bits}
 use Rattle.feed.specs.Values.{float_at}
 use Rattle.feed.proofs.Instants.{nan_above, none_below}
-use borrow.Author.Rules.{rules}
 use Rattle.feed.proofs.values.float_at.Goals as goal
 
 -- 0.0 / 0.0 as MIR has it, with 0.0 by its bits

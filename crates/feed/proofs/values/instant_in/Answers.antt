@@ -3,12 +3,10 @@ use mathlib.Core.Path.{◌≡◌, sym, ◌∙◌}
 use mathlib.Core.Bool.{true, false}
 use native.Mathlib.Omega.{arith}
 use lib.ListN.{get_or}
-use borrow.Author.Tests.{not-true, not-false}
 use Rattle.laws.proofs.Tests.{tests}
 use Rattle.records.specs.Records.{byte_at}
 use Rattle.rates.specs.Mixes.{mix_listed}
 use Rattle.feed.specs.Values.{instant_size, instant_in}
-use borrow.Author.Rules.{rules}
 use Rattle.feed.proofs.values.instant_in.Goals as goal
 use Rattle.feed.proofs.values.instant_in.Goals.{Else-not-mix_listed, Then-not-mix_listed}
 
