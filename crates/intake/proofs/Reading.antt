@@ -12,6 +12,9 @@ use Rattle.intake.specs.Intake.{record_size, Took}
 head_beyond : (old head : List ℕ) (k : ℕ) → length head ≡ 3 → drop (3 + k) (head ++ drop 3 old) ≡ drop (3 + k) old
 head_beyond old head k e = subst (λ (n : ℕ). drop (n + k) (head ++ drop 3 old) ≡ drop (3 + k) old) e (drop-append-add head (drop 3 old) k ∙ drop-drop k 3 old)
 
+pub head_took : (old head : List ℕ) (n : ℕ) → length head ≡ 3 → n ≤ 3 → 3 ≤ length old → Took old (head ++ drop 3 old) n
+head_took old head n e h l = record { held = omega arith; within = omega arith; beyond = head_beyond old head (pair_at (head ++ drop 3 old) 1) e }
+
 -- and then as many as the length says
 module _ (old head payload : List ℕ) (size n : ℕ) (e : length head ≡ 3) (p : length payload ≡ size) (h : n ≤ length payload) where
   abbrev pub first : List ℕ

@@ -1,7 +1,6 @@
 -- `bench_session::bench_frames` meets its contract.
 use mathlib.Core.Path.{ap, ◌∙◌}
 use lib.ListN.{length}
-use borrow.Author.Rules.{rules}
 use Rattle.session.specs.declared.Begun.{Begun}
 use Rattle.bench_session.specs.Frames.{block_each, sum_after}
 use Rattle.bench_session.proofs.bench_frames.Goals as goal

@@ -1,13 +1,7 @@
 -- `bench_session::bench_instants` meets its contract. The loop's invariant: what the frames passed give.
 use Prim.Native.Nat.{◌-◌, ◌≤◌, ◌<◌}
-use mathlib.Core.Path.{◌≡◌, ap, ◌∙◌}
-use native.Mathlib.Numerals.{add-one}
-use native.Mathlib.Omega.{arith}
-use borrow.Author.Rules.{rules}
-use lib.ListN.{length}
-use Rattle.session.specs.declared.Begun.{Begun}
-use Rattle.bench_session.specs.declared.Turn.{Turn}
-use Rattle.bench_session.specs.Instants.{instant_frame, instant_turns, instant_sum_after}
+use mathlib.Core.Path.{◌≡◌}
+use Rattle.bench_session.specs.Instants.{instant_turns}
 use Rattle.bench_session.proofs.bench_instants.Given as goal
 
 abbrev pub invariant-loop-i : goal.invariant-loop-i

@@ -1,7 +1,6 @@
 -- `bench_session::bench_pack` meets its contract.
 use mathlib.Core.Path.{ap, ap₂, ◌∙◌}
 use native.Mathlib.Omega.{arith}
-use borrow.Author.Rules.{rules}
 use Rattle.session.specs.declared.Session.{Session}
 use Rattle.session.specs.declared.Begun.{Begun}
 use Rattle.bench_session.specs.declared.Load.{Load}

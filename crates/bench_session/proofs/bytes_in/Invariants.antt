@@ -1,13 +1,8 @@
 -- `bench_session::bytes_in` meets its contract. The loop's invariant: the sum is that over what is left.
-use Prim.Native.Nat.{ℕ, ◌+◌, ◌-◌, ◌≤◌, ◌<◌}
-use mathlib.Core.Path.{◌≡◌, refl, sym, ap, ◌∙◌}
-use mathlib.Core.List.{List}
-use native.Mathlib.Numerals.{add-one}
-use native.Mathlib.Omega.{arith}
-use borrow.Author.Rules.{rules}
-use lib.ListN.{length, get_or, drop}
-use lib.Seq.{drop-cons, drop-length}
-use Rattle.bench_session.specs.Frames.{byte_in, bytes_in}
+use Prim.Native.Nat.{◌-◌, ◌≤◌, ◌<◌}
+use mathlib.Core.Path.{◌≡◌}
+use lib.ListN.{length, drop}
+use Rattle.bench_session.specs.Frames.{bytes_in}
 use Rattle.bench_session.proofs.bytes_in.Given as goal
 
 abbrev pub invariant-loop-i : goal.invariant-loop-i

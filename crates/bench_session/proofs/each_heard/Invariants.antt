@@ -1,12 +1,6 @@
 -- `bench_session::each_heard` meets its contract. The loop's invariant: what the blocks passed make.
 use Prim.Native.Nat.{◌-◌, ◌≤◌}
-use mathlib.Core.Path.{◌≡◌, refl, ap, ◌∙◌}
-use native.Mathlib.Numerals.{add-one}
-use native.Mathlib.Omega.{arith}
-use borrow.Author.Rules.{rules}
-use Rattle.session.specs.declared.Session.{Session}
-use Rattle.session.specs.declared.Sounded.{Sounded}
-use Rattle.session.specs.Session.{sound_of}
+use mathlib.Core.Path.{◌≡◌}
 use Rattle.bench_session.specs.Frames.{each_heard}
 use Rattle.bench_session.proofs.each_heard.Given as goal
 

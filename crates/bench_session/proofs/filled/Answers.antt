@@ -2,7 +2,6 @@
 use mathlib.Core.Path.{ap, ◌∙◌}
 use Rattle.session.specs.declared.Session.{Session}
 use Rattle.bench_session.specs.Frames.{other_lines, sounds, filled_with}
-use borrow.Author.Rules.{rules}
 use Rattle.bench_session.proofs.filled.Goals as goal
 
 pub returns : goal.returns

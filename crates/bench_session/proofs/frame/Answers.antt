@@ -1,10 +1,9 @@
 -- `bench_session::frame` meets its contract.
 use Prim.Native.Nat.{ℕ, zero, suc, ◌≤◌}
-use mathlib.Core.Path.{◌≡◌, refl, sym, ap, ap₂, ◌∙◌}
+use mathlib.Core.Path.{◌≡◌, refl, ap, ap₂, ◌∙◌}
 use mathlib.Core.List.{List, ◌∷◌}
 use native.Mathlib.Omega.{arith}
-use lib.ListN.{length, take, replicate, length-replicate}
-use borrow.Author.Rules.{rules}
+use lib.ListN.{take, replicate}
 use Rattle.session.specs.declared.Session.{Session}
 use Rattle.bench_session.specs.Frames.{packed_in, frame_of}
 use Rattle.bench_session.proofs.frame.Goals as goal

@@ -4,7 +4,6 @@ use mathlib.Core.Path.{◌≡◌, ap, ◌∙◌}
 use mathlib.Core.List.{List}
 use borrow.Author.Tests.{eq-eqb, ne_eqb}
 use Rattle.bench_session.specs.Frames.{frame_of, line_at}
-use borrow.Author.Rules.{rules}
 use Rattle.bench_session.proofs.frame_at.Goals as goal
 
 first_line : (even odd : List ℕ) (turn : ℕ) → turn % 2 ≡ 0 → even ≡ line_at even odd turn

@@ -1,12 +1,7 @@
 -- `bench_session::frames` meets its contract. The loop's invariant: what the frames passed give.
 use Prim.Native.Nat.{◌-◌, ◌≤◌, ◌<◌}
-use mathlib.Core.Path.{◌≡◌, refl, ap, ◌∙◌}
-use native.Mathlib.Numerals.{add-one}
-use native.Mathlib.Omega.{arith}
-use borrow.Author.Rules.{rules}
-use Rattle.sampling.specs.Formats.{row_of}
-use Rattle.bench_session.specs.declared.Turn.{Turn}
-use Rattle.bench_session.specs.Frames.{frame_of, turn_at, line_at, turns, sum_after}
+use mathlib.Core.Path.{◌≡◌}
+use Rattle.bench_session.specs.Frames.{turns}
 use Rattle.bench_session.proofs.frames.Given as goal
 
 abbrev pub invariant-loop-i : goal.invariant-loop-i

@@ -1,11 +1,7 @@
 -- `bench_session::heard` meets its contract. The loop's invariant: what the blocks passed make.
 use Prim.Native.Nat.{◌-◌, ◌≤◌}
-use mathlib.Core.Path.{◌≡◌, refl, ap, ◌∙◌}
-use native.Mathlib.Numerals.{add-one}
-use native.Mathlib.Omega.{arith}
-use borrow.Author.Rules.{rules}
-use Rattle.session.specs.declared.Session.{Session}
-use Rattle.bench_session.specs.Frames.{each_heard, sounds}
+use mathlib.Core.Path.{◌≡◌}
+use Rattle.bench_session.specs.Frames.{sounds}
 use Rattle.bench_session.proofs.heard.Given as goal
 
 abbrev pub invariant-loop-k : goal.invariant-loop-k

@@ -1,7 +1,6 @@
 -- `bench_session::instant_frame` meets its contract.
 use mathlib.Core.Path.{ap, ◌∙◌}
 use lib.ListN.{replicate}
-use borrow.Author.Rules.{rules}
 use Rattle.session.specs.declared.Session.{Session}
 use Rattle.bench_session.specs.Frames.{packed_in}
 use Rattle.bench_session.specs.Instants.{all_heard, instant_frame}

@@ -1,7 +1,6 @@
 -- `bench_session::packed` meets its contract.
 use Prim.Native.Nat.{ℕ}
 use mathlib.Core.Path.{ap, ap₂, ◌∙◌}
-use borrow.Author.Rules.{rules}
 use Rattle.session.specs.declared.Session.{Session}
 use Rattle.session.specs.declared.Packed.{Packed}
 use Rattle.bench_session.specs.Frames.{bytes_in, packed_in}

@@ -1,10 +1,7 @@
 -- `bench_session::packed_again` meets its contract. The loop's invariant: what the packings passed give.
 use Prim.Native.Nat.{◌-◌, ◌≤◌, ◌<◌}
-use mathlib.Core.Path.{◌≡◌, ap, ap₂, ◌∙◌}
-use native.Mathlib.Numerals.{add-one}
-use native.Mathlib.Omega.{arith}
-use borrow.Author.Rules.{rules}
-use Rattle.bench_session.specs.Frames.{bytes_in, packings}
+use mathlib.Core.Path.{◌≡◌}
+use Rattle.bench_session.specs.Frames.{packings}
 use Rattle.bench_session.proofs.packed_again.Given as goal
 
 abbrev pub invariant-loop-i : goal.invariant-loop-i

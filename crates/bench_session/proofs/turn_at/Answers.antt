@@ -1,7 +1,6 @@
 -- `bench_session::turn_at` meets its contract.
 use Prim.Native.Nat.{ℕ, ◌/◌}
 use mathlib.Core.Path.{◌≡◌, ap, ◌∙◌}
-use borrow.Author.Rules.{rules}
 use borrow.Author.Tests.{eq-eqb, ne_eqb}
 use Rattle.sampling.specs.declared.Row.{Row}
 use Rattle.bench_session.specs.Frames.{turn_at}

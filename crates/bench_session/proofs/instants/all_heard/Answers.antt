@@ -1,10 +1,9 @@
 -- `bench_session::instants::all_heard` meets its contract.
 use mathlib.Core.Path.{◌≡◌, refl, sym}
 use mathlib.Core.Bool.{Bool, true, false, cond}
-use native.Mathlib.Nat.{div-zero, div-mul-le_self}
+use native.Mathlib.Nat.{div-zero}
 use lib.Dec.{eqb}
 use lib.ListN.{length}
-use borrow.Author.Rules.{rules}
 use borrow.Author.Tests.{eq-eqb, ne_eqb}
 use Rattle.session.specs.declared.Session.{Session}
 use Rattle.bench_session.specs.Instants.{instants_heard, all_heard}

@@ -1,18 +1,8 @@
 -- `bench_session::instants::instants_heard` meets its contract. The loop's invariant: what the instants passed make.
-use Prim.Native.Nat.{ℕ, ◌+◌, ◌*◌, ◌-◌, ◌≤◌}
-use mathlib.Core.Path.{◌≡◌, refl, ap, ap₂, ◌∙◌}
-use native.Mathlib.Nat.{mul-le-mul_right}
-use native.Mathlib.Numerals.{add-one}
-use native.Mathlib.Omega.{arith}
-use borrow.Author.Rules.{rules}
-use lib.ListN.{length, drop}
-use Rattle.laws.proofs.Lists.{tail_part}
-use Rattle.floats.specs.declared.Instant.{Instant}
-use Rattle.session.specs.declared.Session.{Session}
-use Rattle.session.specs.declared.Sounded.{Sounded}
-use Rattle.session.specs.Session as session
-use Rattle.bench_audio.specs.Instants.{instant_of}
-use Rattle.bench_session.specs.Instants.{turn_after, turn, instants_heard}
+use Prim.Native.Nat.{◌*◌, ◌-◌, ◌≤◌}
+use mathlib.Core.Path.{◌≡◌}
+use lib.ListN.{length}
+use Rattle.bench_session.specs.Instants.{turn, instants_heard}
 use Rattle.bench_session.proofs.instants.instants_heard.Given as goal
 
 abbrev pub invariant-loop-i : goal.invariant-loop-i

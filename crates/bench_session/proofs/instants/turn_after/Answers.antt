@@ -1,5 +1,4 @@
 -- `bench_session::instants::turn_after` meets its contract.
-use borrow.Author.Rules.{rules}
 use borrow.Author.Tests.{lt-ltb, le-ltb}
 use Rattle.bench_session.specs.Instants.{turn_after}
 use Rattle.bench_session.proofs.instants.turn_after.Goals as goal
