@@ -45,7 +45,7 @@ some [] = false
 some (a ∷ h) = true
 
 -- The fingerprint is what its history says. The next kept sample is number (taken + held) times D, wait samples on; held bit k is that of
--- sample (taken + k) times D. `proofs.History.holds-once`: one history, one fingerprint
+-- sample (taken + k) times D. `proofs.History.holds_once`: one history, one fingerprint
 pub record Holds (mix d : ℕ) (h : List ℕ) (taken : ℕ) (f : Fingerprint) : Type 0 where
   pub mix_type : f.mix ≡ mix
   pub envelope : f.envelope ≡ envelope_after h

@@ -1,6 +1,6 @@
 -- The floor of a negative fraction, from the fraction cut towards zero. Over any divisor.
 --     n / d and p / c are one fraction: p * d ≡ n * c
---     below-cut    p / c has a fraction part, so the floor of -n / d lies one below the cut value
+--     below_cut    p / c has a fraction part, so the floor of -n / d lies one below the cut value
 --     at_cut       it has none, so the two are equal
 use Rattle.std.proofs.Common.{◌≡◌, ℕ, zero, suc, ◌+◌, ◌*◌, ◌/◌, ◌<◌, ◌≤◌, pos, negsuc, neg_ℤ, sym, refl, ap, ◌∙◌, subst, mul_comm, le_antisymm, lt_of_mul-lt-mul_right, mul-lt-mul_of_pos_right, mul-pos, zero-mul, mul_right_comm, div-mul-le_self, arith}
 use native.Mathlib.Nat.{zero-div, eq_of_mul-eq-mul_right, div-eq_of_lt-le, lt-mul-div-succ}

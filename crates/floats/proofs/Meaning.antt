@@ -1,8 +1,8 @@
 -- What a value's sample means: the product that the code makes is the definition's, and a whole number over 32,768 is its own sample.
---     exact-product   between -1 and 1 the f32 product by 32,768 is the exact one: nothing is rounded, in a subnormal neither
---     over-sample     the sample of z / 32,768, for z from -32,768 to 32,767, is z
---     over-number     and such a value is no NaN
--- Outside -1 to 1 the sample is held to an end, and no product is needed: `Scaled.at_top`, `Scaled.at-bottom`. That a finite f32 is a whole number over 2 ^ 149: `Scaled.whole-value`.
+--     exact_product   between -1 and 1 the f32 product by 32,768 is the exact one: nothing is rounded, in a subnormal neither
+--     over_sample     the sample of z / 32,768, for z from -32,768 to 32,767, is z
+--     over_number     and such a value is no NaN
+-- Outside -1 to 1 the sample is held to an end, and no product is needed: `Scaled.at_top`, `Scaled.at_bottom`. That a finite f32 is a whole number over 2 ^ 149: `Scaled.whole_value`.
 use Rattle.std.proofs.Common.{◌≡◌, ℕ, zero, suc, ◌*◌, ◌/◌, ◌^◌, ◌<◌, Bool, true, false, T, ℤ, pos, sym, refl, ap, ◌∙◌, subst, mul_assoc, mul_right_comm, mul-div_cancel, arith, lit<}
 use native.Mathlib.Nat.{eq_of_mul-eq-mul_right}
 use lib.Signed.{mag}

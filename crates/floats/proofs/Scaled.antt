@@ -1,10 +1,10 @@
 -- An f32 times 32,768, where it lies between -1 and 1: the product is exact, its cut towards zero is a whole number below 2 ^ 15, and comparing the product with
 -- that number says whether the floor lies one below.
---     lt-values    the order of two finite floats by their fractions
+--     lt_values    the order of two finite floats by their fractions
 --     scaled_value the product is exact
---     whole-value  a finite f32 is a whole number over 2 ^ 149
+--     whole_value  a finite f32 is a whole number over 2 ^ 149
 --     Middle       what `floored` needs of x;     middle   it holds
---     at_top, at-bottom    the sample of an x that is 1 or more, -1 or less
+--     at_top, at_bottom    the sample of an x that is 1 or more, -1 or less
 use Rattle.std.proofs.Common.{◌≡◌, ℕ, zero, suc, ◌+◌, ◌-◌, ◌*◌, ◌/◌, ◌%◌, ◌^◌, ◌<◌, ◌≤◌, min, Bool, true, false, not, ◌&&◌, ◌||◌, T, eqb, ltb, leb, ℤ, pos, negsuc, ◌-ℤ◌, neg_ℤ, sym, refl, ap, ◌∙◌, subst, true≢false, le_trans, le_of_eq, lt_of_lt_of_le, mul-le-mul_right, mul_assoc, mul_comm, div-lt_iff_lt-mul, lt_of_mul-lt-mul_right, mul-lt-mul_of_pos_right, mul-pos, one-mul, lt_of_not-le, le-div_iff_mul-le, zero-mul, mul-one, mul_right_comm, not-le_of_lt, div-mul-le_self, div-one, mul-div_cancel, mul_left_comm, arith, lit<, lit≤, eqb→eq, ltb→lt, lt→ltb, leb→le, nltb→le, T_not, pow_pos, pow-add, le-ltb}
 use lib.Pow.{pow-lt}
 use lib.Signed.{mag}

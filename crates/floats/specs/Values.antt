@@ -11,7 +11,7 @@ signed_by false n = pos n
 signed_by true n = neg_ℤ (pos n)
 
 -- "a finite one is a whole number over 2 to the 149th": the number whose 2 ^ 149th part is m * 2 ^ e, 2 ^ e being the fraction up e / down e.
--- `proofs.Scaled.whole-value`: nothing is lost
+-- `proofs.Scaled.whole_value`: nothing is lost
 abbrev pub over149 : ℕ → ℤ → ℕ
 over149 m e = m * up e * 2 ^ 149 / down e
 

@@ -1,4 +1,4 @@
--- What 02's A1 keeps: the count of old, a yes or no for each pixel in 01's words, to which the two counts sum (`Compared.sum_is_lem`).
+-- What 02's A1 keeps: the count of old, a yes or no for each pixel in 01's words, to which the two counts sum (`Compared.sum_is`).
 use Rattle.std.specs.Prelude.{ℕ, ◌+◌, ◌/◌, ◌≤◌, ◌≡◌, Bool, cond, ◌||◌, List, [], ◌∷◌, leb}
 use Rattle.picture.specs.declared.Told.{Told}
 use Rattle.picture.specs.declared.Told.TheVariants.{Open, Nothing, Value}

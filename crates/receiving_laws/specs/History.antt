@@ -48,7 +48,7 @@ unfoldable pub is_some : List (List ℕ) → Bool
 is_some [] = false
 is_some (b ∷ bs) = true
 
--- the newest; there is at most one (`taken-once`)
+-- the newest; there is at most one (`taken_once`)
 unfoldable pub first : List (List ℕ) → List ℕ
 first [] = []
 first (b ∷ bs) = b

@@ -42,7 +42,7 @@ floor_is (negsuc n) d h =
     (r, omega arith, sym (ap₂ ◌+ℤ◌ (negated (d * suc (n / d))) (sym (sub_pos r 0 r (omega arith))) ∙ (sub_add 0 (d * suc (n / d)) r 0 ∙ s)))
 
 -- rounding towards zero (02, A9): the size of z is d times the quotient's, and a remainder of less than d; the quotient of -z is that of z, negated; and what is not
--- negative has the floor for its quotient (`Rounding.rounds-alike`)
+-- negative has the floor for its quotient (`Rounding.rounds_alike`)
 pub towards_zero_is : (z : ℤ) (d : ℕ) → 0 < d → (r : ℕ) × (r < d) × (nat_abs z ≡ d * nat_abs (towards_zero z d) + r)
 unfolding towards_zero
 towards_zero_is (pos n) d h = (n % d, mod-lt n h, sym (div-add-mod n d))

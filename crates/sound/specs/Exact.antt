@@ -1,7 +1,7 @@
 -- The exact values of demand 3: the same recurrences over the same a(i), with v / k kept as an exact fraction (01, Audio).
 use Rattle.std.specs.Prelude.{ℕ, ◌+◌, ◌-◌, ◌*◌, ◌≤◌, ◌<◌, List, [], ◌∷◌}
 
--- A whole number over a power of the filter's divisor (`proofs.Exact.den-power`)
+-- A whole number over a power of the filter's divisor (`proofs.Exact.den_power`)
 pub record Fraction : Type 0 where
   pub num : ℕ
   pub den : ℕ

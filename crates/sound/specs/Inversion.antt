@@ -1,4 +1,4 @@
--- What 000, 5.3.2 does to the sixteen bits of a sample. 01 says it of the number (`Mix.pseudoAbsolute`); that the two are one is `proofs.Meaning.clause-is`.
+-- What 000, 5.3.2 does to the sixteen bits of a sample. 01 says it of the number (`Mix.pseudo_absolute`); that the two are one is `proofs.Meaning.clause_is`.
 use Rattle.std.specs.Prelude.{ℕ, zero, suc, ◌+◌, ◌-◌, ◌*◌, ◌/◌, ◌%◌, cond, eqb}
 
 -- "inverted (one's complement)": the n lowest bits of w, each the other one

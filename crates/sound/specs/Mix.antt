@@ -31,12 +31,12 @@ weighted [] xs = pos 0
 weighted (w ∷ ws) [] = pos 0
 weighted (w ∷ ws) (x ∷ xs) = pos w *ℤ x +ℤ weighted ws xs
 
--- z / d, "rounded down towards minus infinity": -(n + 1) gives -(n / d + 1). `proofs.Meaning.floor-is` says what it is
+-- z / d, "rounded down towards minus infinity": -(n + 1) gives -(n / d + 1). `proofs.Meaning.floor_is` says what it is
 unfoldable pub floor : ℤ → ℕ → ℤ
 floor (pos n) d = pos (n / d)
 floor (negsuc n) d = negsuc (n / d)
 
--- z / d, "rounded towards zero" (02, A9): -(n + 1) gives -((n + 1) / d). `proofs.Meaning.towards-zero-is` says what it is
+-- z / d, "rounded towards zero" (02, A9): -(n + 1) gives -((n + 1) / d). `proofs.Meaning.towards_zero_is` says what it is
 unfoldable pub towards_zero : ℤ → ℕ → ℤ
 towards_zero (pos n) d = pos (n / d)
 towards_zero (negsuc n) d = neg_ℤ (pos (suc n / d))

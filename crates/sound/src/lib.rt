@@ -54,7 +54,7 @@ fn rounded(rule: u8, sum: u32, bias: u32, d: u32) -> u16
 }
 
 // "the 16 bits of the audio sample shall be inverted (one's complement) if the most significant bit is '1'" (000, 5.3.2).
-// So a negative mix m, here its 16 bits, becomes -m-1: `proofs.Meaning.inverted-negative`.
+// So a negative mix m, here its 16 bits, becomes -m-1: `proofs.Meaning.inverted_negative`.
 fn pseudo_absolute(m: u16) -> u16
     ensures { result ≡ pseudo_absolute (signed m) }
 {
@@ -64,7 +64,7 @@ fn pseudo_absolute(m: u16) -> u16
     m
 }
 
-// a(i) of a mono instant, from its sample's 16 bits: it has no quotient, so both rules mix it to itself (`proofs.Meaning.mono-mixed`).
+// a(i) of a mono instant, from its sample's 16 bits: it has no quotient, so both rules mix it to itself (`proofs.Meaning.mono_mixed`).
 pub fn mono_value(m: u16) -> u16
     ensures { result ≡ pseudo_absolute (signed m) }
 {

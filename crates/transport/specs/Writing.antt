@@ -13,7 +13,7 @@ head_bytes n = 0x00 ∷ 0x00 ∷ 0x01 ∷ 0xBF ∷ (n + 4) / 256 ∷ (n + 4) % 2
 unfoldable pub front_bytes : List ℕ → List ℕ
 front_bytes c = head_bytes (length c) ++ c
 
--- "and CRC_32 ..": what the bytes before it leave in the register. With these four, and no others, it ends at zero over the whole packet (`sealed`, `seal-one`)
+-- "and CRC_32 ..": what the bytes before it leave in the register. With these four, and no others, it ends at zero over the whole packet (`sealed`, `seal_one`)
 unfoldable pub transport_bytes : List ℕ → List ℕ
 transport_bytes c = front_bytes c ++ four_bytes (register_of (front_bytes c))
 
