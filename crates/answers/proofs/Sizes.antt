@@ -6,20 +6,20 @@ use native.Mathlib.Omega.{arith}
 use lib.ListN.{length, take, drop, length-append}
 use lib.Seq.{sets, length-sets, length-take-le}
 use Rattle.laws.specs.declared.Done.{Done}
-use Rattle.text.specs.Spelling.{hex_text}
 use Rattle.text.specs.Lines.{item, newline}
 use Rattle.text.proofs.Spelled.{item_size, hex_size}
 use Rattle.picture.specs.declared.Told.{Told}
 use Rattle.picture.specs.declared.Told.TheVariants.{Open, Nothing, Value}
 use Rattle.answers.specs.declared.Cause.{Cause}
+use Rattle.answers.specs.declared.Cause.TheVariants.{UnknownTag, TooShort, TooLong, RoomAbove, IdPresent, VideoValues, UnusedPlace, OtherKind, CutShort}
 use Rattle.answers.specs.declared.Hand.{Hand}
+use Rattle.answers.specs.declared.Hand.TheVariants.{Pack, Sample, Rewrite, Wrap, Unwrap, Write, Stream, Unstream, Mend, Next}
 use Rattle.answers.specs.declared.Answer.{Answer}
 use Rattle.answers.specs.declared.Answer.TheVariants.{Setup, Line, Sound, Instant, VideoRestart, AudioRestart, Receiver, Arrive, GiveUp, Handed, Reported, Bad, Finished}
 use Rattle.answers.specs.Words.{setup, line, sound, instant, arrive, field, brighter, darker}
-use Rattle.answers.specs.Lines.{number_line, field_text, told_text, line_line, hand_row, hand_size, hand_word, hex_part, no_spill, handed_line, line_with, said_of, line_of, Quiet}
-use Rattle.answers.specs.Faults.{cause_row, cause_size, cause_tag, cause_tags, record_word, at_byte, colon, cause_text, fault_text, fault_line}
+use Rattle.answers.specs.Lines.{number_line, field_text, told_text, line_line, hand_word, hex_part, no_spill, handed_line, line_with, said_of, line_of, Quiet}
+use Rattle.answers.specs.Faults.{cause_words, tag_text, record_word, at_byte, colon, cause_text, fault_text, fault_line}
 use Rattle.answers.proofs.Watch.{hex_part_size, spill_none}
-use Rattle.answers.proofs.Rows.{hand_within, cause_within}
 
 number_size : (word : List ℕ) (n : ℕ) → length (number_line word n) ≤ length word + 21
 unfolding number_line
@@ -47,8 +47,16 @@ unfolding line_line
 line_size n told = omega (arith, length-append (item line n ++ told_text told) newline, length-append (item line n) (told_text told), item_size line n, told_size told)
 
 word_size : (hand : Hand) → length (hand_word hand) ≤ 9
-unfolding hand_word
-word_size hand = let h = hand_within hand in omega (arith, length-take-le (hand_size hand) (hand_row hand) h.0)
+word_size Pack = omega arith
+word_size Sample = omega arith
+word_size Rewrite = omega arith
+word_size Wrap = omega arith
+word_size Unwrap = omega arith
+word_size Write = omega arith
+word_size Stream = omega arith
+word_size Unstream = omega arith
+word_size Mend = omega arith
+word_size Next = omega arith
 
 -- a line with the bytes that a call wrote into its room
 handed_size : (hand : Hand) (d : Done) (left : List ℕ) → d.written ≤ length left → length left ≤ 4096 → length (handed_line no_spill hand d left) ≤ 8256
@@ -111,18 +119,20 @@ line_held line o o' size f e p q =
 
 -- ---- what is said of a bad record
 
-cause_size_lem : (c : Cause) → length (cause_text c) ≤ 51
+words_size : (c : Cause) → length (cause_words c) + length (tag_text c) ≤ 51
+words_size (UnknownTag tag) = omega (arith, hex_size (tag ∷ []))
+words_size TooShort = omega arith
+words_size TooLong = omega arith
+words_size RoomAbove = omega arith
+words_size IdPresent = omega arith
+words_size VideoValues = omega arith
+words_size UnusedPlace = omega arith
+words_size OtherKind = omega arith
+words_size CutShort = omega arith
+
+cause_size : (c : Cause) → length (cause_text c) ≤ 51
 unfolding cause_text
-cause_size_lem c =
-    let h = cause_within c in
-    let t : List ℕ = take (cause_tags c) (cause_tag c ∷ []) in
-    omega (
-      arith,
-      length-append (take (cause_size c) (cause_row c)) (hex_text t),
-      length-take-le (cause_size c) (cause_row c) h.0,
-      hex_size t,
-      length-take-le (cause_tags c) (cause_tag c ∷ []) h.1.1.0,
-    )
+cause_size c = omega (arith, length-append (cause_words c) (tag_text c), words_size c)
 
 fault_size : (number byte : ℕ) (c : Cause) → length (fault_text number byte c) ≤ 112
 unfolding fault_text
@@ -136,7 +146,7 @@ fault_size number byte c =
       length-append a b,
       item_size record_word number,
       item_size at_byte byte,
-      cause_size_lem c,
+      cause_size c,
     )
 
 pub fault_line_size : (program : List ℕ) (number byte : ℕ) (c : Cause) → length (fault_line program number byte c) ≤ length program + 115

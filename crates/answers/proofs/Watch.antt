@@ -1,13 +1,11 @@
 -- The watch over the bytes beyond those written: what it scans, and that a call which keeps them leaves nothing to report.
-use Prim.Native.Nat.{ℕ, zero, suc, ◌+◌, ◌*◌, ◌≤◌, ◌<◌}
+use Prim.Native.Nat.{ℕ, zero, suc, ◌+◌, ◌*◌, ◌≤◌}
 use mathlib.Core.Path.{◌≡◌, refl, ap}
 use mathlib.Core.List.{List, [], ◌∷◌, ◌++◌}
-use mathlib.Core.Bool.{true, false, ◌&&◌}
+use mathlib.Core.Bool.{true, false}
 use native.Mathlib.Omega.{arith}
-use native.Mathlib.Numerals.{add-one}
 use native.Mathlib.Nat.{le_of_suc-le-suc}
-use lib.ListN.{length, get_or, take, drop, drop_of_length-le, length-append, length-replicate, length-drop}
-use lib.Seq.{drop-cons}
+use lib.ListN.{length, take, drop, length-append, length-replicate, length-drop}
 use lib.Dec.{eqb}
 use borrow.Author.Tests.{eq-eqb, ne_eqb}
 use Rattle.laws.specs.Calls.{over}
@@ -17,14 +15,6 @@ use Rattle.text.specs.Lines.{space}
 use Rattle.text.proofs.Spelled.{hex_size}
 use Rattle.answers.specs.Lines.{hex_part, untouched, fresh, is_untouched, spill_part}
 use Rattle.answers.specs.Words.{spilled}
-
-pub untouched_step : (s : List ℕ) (i : ℕ) → i < length s → is_untouched (drop i s) ≡ (eqb (get_or s i 0) 0xA5 && is_untouched (drop (i + 1) s))
-unfolding is_untouched
-untouched_step s i h = rw (add-one, drop-cons s i 0)
-
-pub untouched_end : (s : List ℕ) (i : ℕ) → length s ≤ i → is_untouched (drop i s) ≡ true
-unfolding is_untouched
-untouched_end s i h = rw drop_of_length-le
 
 -- a buffer as it is lent is untouched, and so is what is left of one
 pub untouched_is : (n : ℕ) → is_untouched (untouched n) ≡ true

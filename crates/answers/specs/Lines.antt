@@ -1,5 +1,6 @@
 -- The printed lines (FEED): "`N` is the answer's number"; "HEX is lower-case, two digits a byte, no spaces".
-use Rattle.std.specs.Prelude.{ℕ, ◌≤◌, ◌≡◌, List, [], ◌∷◌, ◌++◌, Bool, true, cond, ◌&&◌, length, take, drop, replicate, eqb}
+use Rattle.std.specs.Prelude.{ℕ, ◌≤◌, ◌≡◌, List, [], ◌∷◌, ◌++◌, Bool, true, cond, length, take, drop, replicate, eqb}
+use Rattle.std.specs.List.{list_all}
 use Rattle.laws.specs.declared.Done.{Done}
 use Rattle.text.specs.Spelling.{hex_text}
 use Rattle.text.specs.Lines.{item, space, newline}
@@ -28,33 +29,28 @@ told_text (Value f b k) = field_text f b k
 unfoldable pub line_line : ℕ → Told → List ℕ
 line_line number told = item line number ++ told_text told ++ newline
 
--- the word of a call with a room: a row filled up with spaces, and how much of it the word is
-abbrev pub hand_row : Hand → List ℕ
-hand_row Pack = 112 ∷ 97 ∷ 99 ∷ 107 ∷ 32 ∷ 32 ∷ 32 ∷ 32 ∷ 32 ∷ []
-hand_row Sample = 115 ∷ 97 ∷ 109 ∷ 112 ∷ 108 ∷ 101 ∷ 32 ∷ 32 ∷ 32 ∷ []
-hand_row Rewrite = 114 ∷ 101 ∷ 119 ∷ 114 ∷ 105 ∷ 116 ∷ 101 ∷ 32 ∷ 32 ∷ []
-hand_row Wrap = 119 ∷ 114 ∷ 97 ∷ 112 ∷ 32 ∷ 32 ∷ 32 ∷ 32 ∷ 32 ∷ []
-hand_row Unwrap = 117 ∷ 110 ∷ 119 ∷ 114 ∷ 97 ∷ 112 ∷ 32 ∷ 32 ∷ 32 ∷ []
-hand_row Write = 119 ∷ 114 ∷ 105 ∷ 116 ∷ 101 ∷ 32 ∷ 32 ∷ 32 ∷ 32 ∷ []
-hand_row Stream = 115 ∷ 116 ∷ 114 ∷ 101 ∷ 97 ∷ 109 ∷ 32 ∷ 32 ∷ 32 ∷ []
-hand_row Unstream = 117 ∷ 110 ∷ 115 ∷ 116 ∷ 114 ∷ 101 ∷ 97 ∷ 109 ∷ 32 ∷ []
-hand_row Mend = 109 ∷ 101 ∷ 110 ∷ 100 ∷ 32 ∷ 32 ∷ 32 ∷ 32 ∷ 32 ∷ []
-hand_row Next = 110 ∷ 101 ∷ 120 ∷ 116 ∷ 32 ∷ 32 ∷ 32 ∷ 32 ∷ 32 ∷ []
-
-abbrev pub hand_size : Hand → ℕ
-hand_size Pack = 5
-hand_size Sample = 7
-hand_size Rewrite = 8
-hand_size Wrap = 5
-hand_size Unwrap = 7
-hand_size Write = 6
-hand_size Stream = 7
-hand_size Unstream = 9
-hand_size Mend = 5
-hand_size Next = 5
-
-unfoldable pub hand_word : Hand → List ℕ
-hand_word hand = take (hand_size hand) (hand_row hand)
+-- the word of a call with a room
+abbrev pub hand_word : Hand → List ℕ
+-- `pack `
+hand_word Pack = 112 ∷ 97 ∷ 99 ∷ 107 ∷ 32 ∷ []
+-- `sample `
+hand_word Sample = 115 ∷ 97 ∷ 109 ∷ 112 ∷ 108 ∷ 101 ∷ 32 ∷ []
+-- `rewrite `
+hand_word Rewrite = 114 ∷ 101 ∷ 119 ∷ 114 ∷ 105 ∷ 116 ∷ 101 ∷ 32 ∷ []
+-- `wrap `
+hand_word Wrap = 119 ∷ 114 ∷ 97 ∷ 112 ∷ 32 ∷ []
+-- `unwrap `
+hand_word Unwrap = 117 ∷ 110 ∷ 119 ∷ 114 ∷ 97 ∷ 112 ∷ 32 ∷ []
+-- `write `
+hand_word Write = 119 ∷ 114 ∷ 105 ∷ 116 ∷ 101 ∷ 32 ∷ []
+-- `stream `
+hand_word Stream = 115 ∷ 116 ∷ 114 ∷ 101 ∷ 97 ∷ 109 ∷ 32 ∷ []
+-- `unstream `
+hand_word Unstream = 117 ∷ 110 ∷ 115 ∷ 116 ∷ 114 ∷ 101 ∷ 97 ∷ 109 ∷ 32 ∷ []
+-- `mend `
+hand_word Mend = 109 ∷ 101 ∷ 110 ∷ 100 ∷ 32 ∷ []
+-- `next `
+hand_word Next = 110 ∷ 101 ∷ 120 ∷ 116 ∷ 32 ∷ []
 
 -- "[ HEX] is there only where N is 0"
 unfoldable pub hex_part : ℕ → List ℕ → List ℕ
@@ -71,8 +67,7 @@ abbrev pub fresh : List ℕ
 fresh = untouched 4096
 
 unfoldable pub is_untouched : List ℕ → Bool
-is_untouched [] = true
-is_untouched (b ∷ bs) = eqb b 0xA5 && is_untouched bs
+is_untouched s = list_all (λ b. eqb b 0xA5) s
 
 -- ` spilled` where a byte is touched that should not be
 unfoldable pub spill_part : List ℕ → List ℕ

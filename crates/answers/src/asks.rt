@@ -3,23 +3,20 @@ ghost use Rattle.std.specs.Prelude.{◌≡◌};
 ghost use Rattle.answers.specs.Lines.{fresh};
 ghost use Rattle.answers.specs.Rooms.{room_at};
 
-use crate::{Cause, Room};
+use crate::Cause;
 
-// The room at a place of the payload.
-pub fn room_at(payload: &[u8], at: usize) -> Room
+// The room at a place of the payload, or why it has none.
+pub fn room_at(payload: &[u8], at: usize) -> Result<usize, Cause>
     ensures { result ≡ room_at payload.now at }
 {
-    if payload.len() < 2 {
-        return Room::Not(Cause::TooShort);
-    }
-    if payload.len() - 2 < at {
-        return Room::Not(Cause::TooShort);
+    if payload.len() < 2 || payload.len() - 2 < at {
+        return Err(Cause::TooShort);
     }
     let room = records::pair_at(payload, at);
     if room <= 4096 {
-        return Room::Of(room);
+        return Ok(room);
     }
-    Room::Not(Cause::RoomAbove)
+    Err(Cause::RoomAbove)
 }
 
 // The work buffer, of which a call is lent the first bytes; it is filled with A5h.

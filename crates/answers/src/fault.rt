@@ -1,85 +1,35 @@
 // What is said of a bad record beside its line: where it stands in the feed, and why it is bad.
 ghost use Rattle.std.specs.Prelude.{◌≡◌};
 ghost use Rattle.text.specs.Lines.{Put};
-ghost use Rattle.answers.specs.Faults.{cause_row, cause_size, cause_tag, cause_tags, cause_text, fault_text, fault_line};
+ghost use Rattle.answers.specs.Faults.{cause_words, cause_text, fault_text, fault_line};
 
 use crate::Cause;
 
-// A cause's words, filled up with spaces.
-fn cause_row(cause: Cause) -> [u8; 49]
-    ensures { result ≡ cause_row cause }
+fn cause_words(cause: Cause) -> &'static [u8]
+    ensures { result.now ≡ cause_words cause }
 {
     match cause {
-        Cause::UnknownTag(tag) => *b"unknown tag 0x                                   ",
-        Cause::TooShort => *b"payload too short                                ",
-        Cause::TooLong => *b"payload too long                                 ",
-        Cause::RoomAbove => *b"room above 4,096                                 ",
-        Cause::IdPresent => *b"flat contents with ID present above 1            ",
-        Cause::VideoValues => *b"flat contents with more than 2 video values      ",
-        Cause::UnusedPlace => *b"flat contents with an unused video place not zero",
-        Cause::OtherKind => *b"kind other than 1, 2 or 5                        ",
-        Cause::CutShort => *b"cut short by the end of the input                ",
+        Cause::UnknownTag(_) => b"unknown tag 0x",
+        Cause::TooShort => b"payload too short",
+        Cause::TooLong => b"payload too long",
+        Cause::RoomAbove => b"room above 4,096",
+        Cause::IdPresent => b"flat contents with ID present above 1",
+        Cause::VideoValues => b"flat contents with more than 2 video values",
+        Cause::UnusedPlace => b"flat contents with an unused video place not zero",
+        Cause::OtherKind => b"kind other than 1, 2 or 5",
+        Cause::CutShort => b"cut short by the end of the input",
     }
 }
 
-fn cause_size(cause: Cause) -> usize
-    ensures { result ≡ cause_size cause }
-{
-    match cause {
-        Cause::UnknownTag(tag) => 14,
-        Cause::TooShort => 17,
-        Cause::TooLong => 16,
-        Cause::RoomAbove => 16,
-        Cause::IdPresent => 37,
-        Cause::VideoValues => 43,
-        Cause::UnusedPlace => 49,
-        Cause::OtherKind => 25,
-        Cause::CutShort => 33,
-    }
-}
-
-fn cause_tag(cause: Cause) -> u8
-    ensures { result ≡ cause_tag cause }
-{
-    match cause {
-        Cause::UnknownTag(tag) => tag,
-        Cause::TooShort => 0,
-        Cause::TooLong => 0,
-        Cause::RoomAbove => 0,
-        Cause::IdPresent => 0,
-        Cause::VideoValues => 0,
-        Cause::UnusedPlace => 0,
-        Cause::OtherKind => 0,
-        Cause::CutShort => 0,
-    }
-}
-
-// How many tags a cause names.
-fn cause_tags(cause: Cause) -> usize
-    ensures { result ≡ cause_tags cause }
-{
-    match cause {
-        Cause::UnknownTag(tag) => 1,
-        Cause::TooShort => 0,
-        Cause::TooLong => 0,
-        Cause::RoomAbove => 0,
-        Cause::IdPresent => 0,
-        Cause::VideoValues => 0,
-        Cause::UnusedPlace => 0,
-        Cause::OtherKind => 0,
-        Cause::CutShort => 0,
-    }
-}
-
+// A cause's words, and behind those of an unknown tag the tag.
 fn put_cause(cause: Cause, out: &mut [u8], at: usize) -> usize
     ensures { Put out.old at (cause_text cause) out.new result }
 {
-    let row = cause_row(cause);
-    let size = cause_size(cause);
-    let tag = [cause_tag(cause)];
-    let tags = cause_tags(cause);
-    let p = text::put(&row[..size], out, at);
-    text::put_hex(&tag[..tags], out, p)
+    let p = text::put(cause_words(cause), out, at);
+    match cause {
+        Cause::UnknownTag(tag) => text::put_hex(&[tag], out, p),
+        _ => p,
+    }
 }
 
 // `record N, at byte P: ` and the cause.

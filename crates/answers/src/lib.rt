@@ -37,13 +37,6 @@ pub enum Hand {
     Next,
 }
 
-// A room that a record asks for, or why it has none.
-#[derive(Clone, Copy)]
-pub enum Room {
-    Of(usize),
-    Not(Cause),
-}
-
 // What the call of a record answers. Bytes that it hands out lie at the front of the work buffer.
 #[derive(Clone, Copy)]
 pub enum Answer {
@@ -62,4 +55,19 @@ pub enum Answer {
     Bad(Cause),
     // No record is left.
     Finished,
+}
+
+// What a record is answered, and what the next one finds: a session, or a receiver.
+#[derive(Clone, Copy)]
+pub struct Answered<S> {
+    pub answer: Answer,
+    pub after: S,
+}
+
+// The same, and how many bytes the answer's line has.
+#[derive(Clone, Copy)]
+pub struct Fed<S> {
+    pub size: usize,
+    pub answer: Answer,
+    pub after: S,
 }

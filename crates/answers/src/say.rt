@@ -1,7 +1,7 @@
 // An answer as the line that is printed for it (FEED's table).
-ghost use Rattle.std.specs.Prelude.{◌≡◌, cond, take, leb};
+ghost use Rattle.std.specs.Prelude.{◌≡◌, take};
 ghost use Rattle.text.specs.Lines.{Put};
-ghost use Rattle.answers.specs.Lines.{number_line, field_text, told_text, line_line, hand_row, hand_size, hand_word, hex_part, is_untouched, spill_part, handed_line, said_of};
+ghost use Rattle.answers.specs.Lines.{number_line, field_text, told_text, line_line, hand_word, hex_part, is_untouched, spill_part, handed_line, said_of};
 
 use crate::{Answer, Hand};
 use laws::Done;
@@ -46,47 +46,21 @@ fn say_line(number: u8, told: Told, out: &mut [u8]) -> usize
     text::put(b"\n", out, q)
 }
 
-// The word of a call, filled up with spaces.
-fn hand_row(hand: Hand) -> [u8; 9]
-    ensures { result ≡ hand_row hand }
+fn hand_word(hand: Hand) -> &'static [u8]
+    ensures { result.now ≡ hand_word hand }
 {
     match hand {
-        Hand::Pack => *b"pack     ",
-        Hand::Sample => *b"sample   ",
-        Hand::Rewrite => *b"rewrite  ",
-        Hand::Wrap => *b"wrap     ",
-        Hand::Unwrap => *b"unwrap   ",
-        Hand::Write => *b"write    ",
-        Hand::Stream => *b"stream   ",
-        Hand::Unstream => *b"unstream ",
-        Hand::Mend => *b"mend     ",
-        Hand::Next => *b"next     ",
+        Hand::Pack => b"pack ",
+        Hand::Sample => b"sample ",
+        Hand::Rewrite => b"rewrite ",
+        Hand::Wrap => b"wrap ",
+        Hand::Unwrap => b"unwrap ",
+        Hand::Write => b"write ",
+        Hand::Stream => b"stream ",
+        Hand::Unstream => b"unstream ",
+        Hand::Mend => b"mend ",
+        Hand::Next => b"next ",
     }
-}
-
-fn hand_size(hand: Hand) -> usize
-    ensures { result ≡ hand_size hand }
-{
-    match hand {
-        Hand::Pack => 5,
-        Hand::Sample => 7,
-        Hand::Rewrite => 8,
-        Hand::Wrap => 5,
-        Hand::Unwrap => 7,
-        Hand::Write => 6,
-        Hand::Stream => 7,
-        Hand::Unstream => 9,
-        Hand::Mend => 5,
-        Hand::Next => 5,
-    }
-}
-
-fn put_hand(hand: Hand, out: &mut [u8]) -> usize
-    ensures { Put out.old 0 (hand_word hand) out.new result }
-{
-    let row = hand_row(hand);
-    let size = hand_size(hand);
-    text::put(&row[..size], out, 0)
 }
 
 // ` HEX` where the number is 0, else nothing.
@@ -101,17 +75,11 @@ fn put_written(number: u8, bytes: &[u8], out: &mut [u8], at: usize) -> usize
 }
 
 // Whether every byte is still A5h.
+#[tactic(auto, unfolding(crate::specs::Lines::is_untouched))]
 fn is_untouched(bytes: &[u8]) -> bool
     ensures { result ≡ is_untouched bytes.now }
 {
-    let mut i = 0;
-    while i < bytes.len() {
-        if bytes[i] != 0xa5 {
-            return false;
-        }
-        i += 1;
-    }
-    true
+    bytes.iter().all(|&byte| byte == 0xa5)
 }
 
 // The watch over what is compiled: ` spilled` where a byte beyond those written is no longer A5h.
@@ -124,34 +92,22 @@ fn put_spill(beyond: &[u8], out: &mut [u8], at: usize) -> usize
     text::put(b" spilled", out, at)
 }
 
-// The smaller of two numbers.
-fn least(a: usize, b: usize) -> usize
-    ensures { result ≡ cond (leb a b) a b }
-{
-    if a <= b {
-        return a;
-    }
-    b
-}
-
 // A line that lies at the front of the work buffer.
 fn say_reported(size: usize, work: &[u8], out: &mut [u8]) -> usize
     ensures { Put out.old 0 (take size work.now) out.new result }
 {
-    let n = least(size, work.len());
-    text::put(&work[..n], out, 0)
+    text::put(&work[..size.min(work.len())], out, 0)
 }
 
 // `word N[ HEX]`, with the watch over the bytes beyond those written.
 fn say_handed(hand: Hand, done: Done, work: &[u8], out: &mut [u8]) -> usize
     ensures { Put out.old 0 (handed_line spill_part hand done work.now) out.new result }
 {
-    let written = least(done.written, work.len());
-    let a = put_hand(hand, out);
-    let b = text::put_number(done.number as u64, out, a);
-    let c = put_written(done.number, &work[..written], out, b);
-    let e = put_spill(&work[written..], out, c);
-    text::put(b"\n", out, e)
+    let written = done.written.min(work.len());
+    let a = text::put_item(hand_word(hand), done.number as u64, out, 0);
+    let b = put_written(done.number, &work[..written], out, a);
+    let c = put_spill(&work[written..], out, b);
+    text::put(b"\n", out, c)
 }
 
 // The line of an answer at the front of out, as far as out has places for it; work is the buffer that the call left.

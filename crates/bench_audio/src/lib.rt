@@ -14,11 +14,12 @@ struct Turn {
     sum: u64,
 }
 
+#[tactic(auto, unfolding(crate::specs::Turns::byte_in))]
 fn byte_in(sum: u64, b: u8) -> u64
     requires { sum < 4294967296 }
     ensures { (result ≡ byte_in sum b) × (result < 4294967296) }
 {
-    (sum * 31 + (b as u64)) % 4294967296
+    (sum * 31 + u64::from(b)) % 4294967296
 }
 
 fn bytes_in(sum: u64, bytes: [u8; 5]) -> u64
@@ -45,12 +46,9 @@ fn taken_in(sum: u64, f: Fingerprint) -> Turn
     ensures { (result ≡ taken_in sum f) × (result.sum < 4294967296) }
 {
     let taken = fingerprint::take(f, four_or_five(f));
-    let rest = taken.fingerprint;
-    let out = taken.bytes;
-    let next = bytes_in(sum, out);
     Turn {
-        fingerprint: rest,
-        sum: next,
+        fingerprint: taken.fingerprint,
+        sum: bytes_in(sum, taken.bytes),
     }
 }
 
@@ -58,8 +56,7 @@ fn block_in(t: Turn, rule: u8, d: u8, block: &[u8]) -> Turn
     requires { t.sum < 4294967296 }
     ensures { (result ≡ next_turn rule d block.now t) × (result.sum < 4294967296) }
 {
-    let f = t.fingerprint;
-    taken_in(t.sum, fingerprint::heard(f, rule, d, block))
+    taken_in(t.sum, fingerprint::heard(t.fingerprint, rule, d, block))
 }
 
 // A sum over the bytes taken in so many turns.
@@ -67,50 +64,43 @@ fn block_in(t: Turn, rule: u8, d: u8, block: &[u8]) -> Turn
 pub extern "C" fn bench_audio(rule: u8, mix: u8, d: u8, block: &[u8], rounds: usize) -> u64
     ensures { result ≡ sum_after rule mix d block.now rounds }
 {
-    let f = fingerprint::fresh(mix);
     let mut t = Turn {
-        fingerprint: f,
+        fingerprint: fingerprint::fresh(mix),
         sum: 0,
     };
-    let mut i = 0;
-    while i < rounds {
+    for _i in 0..rounds {
         t = block_in(t, rule, d, block);
-        i += 1;
     }
     t.sum
 }
 
 // The first values as an instant of a mix type, which has as many of them as its number says; a silent one where there are fewer.
+#[tactic(auto, unfolding(crate::specs::Instants::instant_of))]
 pub fn instant_of(mix: u8, values: &[f32]) -> Instant
     ensures { result ≡ instant_of mix values.now }
 {
     if values.len() < mix as usize {
         return Instant::Mono(0.0);
     }
-    if mix == 1 {
-        return Instant::Mono(values[0]);
-    }
-    if mix == 2 {
-        return Instant::Stereo(values[0], values[1]);
-    }
-    if mix == 5 {
-        return Instant::Five(Five {
+    match mix {
+        1 => Instant::Mono(values[0]),
+        2 => Instant::Stereo(values[0], values[1]),
+        5 => Instant::Five(Five {
             L: values[0],
             R: values[1],
             C: values[2],
             Ls: values[3],
             Rs: values[4],
-        });
+        }),
+        _ => Instant::Mono(0.0),
     }
-    Instant::Mono(0.0)
 }
 
 // An instant is heard unless it is refused.
 fn instant_in(f: Fingerprint, rule: u8, d: u8, i: Instant) -> Fingerprint
     ensures { result ≡ instant_in rule d f i }
 {
-    let number = fingerprint::instant_number(f, d, i);
-    if number != 0 {
+    if fingerprint::instant_number(f, d, i) != 0 {
         return f;
     }
     fingerprint::heard_instant(f, rule, d, i)
@@ -122,12 +112,9 @@ fn instants_in(f: Fingerprint, rule: u8, mix: u8, d: u8, values: &[f32], n: usiz
     ensures { result ≡ instants_in rule mix d values.now f n }
 {
     let mut g = f;
-    let mut at = 0;
-    let mut i = 0;
-    while i < n {
+    for i in 0..n {
+        let at = i * (mix as usize);
         g = instant_in(g, rule, d, instant_of(mix, &values[at..]));
-        at = at + (mix as usize);
-        i += 1;
     }
     g
 }
@@ -147,16 +134,12 @@ fn all_in(f: Fingerprint, rule: u8, mix: u8, d: u8, values: &[f32]) -> Fingerpri
 pub extern "C" fn bench_floats(rule: u8, mix: u8, d: u8, values: &[f32], rounds: usize) -> u64
     ensures { result ≡ float_sum_after rule mix d values.now rounds }
 {
-    let f = fingerprint::fresh(mix);
     let mut t = Turn {
-        fingerprint: f,
+        fingerprint: fingerprint::fresh(mix),
         sum: 0,
     };
-    let mut i = 0;
-    while i < rounds {
-        let g = t.fingerprint;
-        t = taken_in(t.sum, all_in(g, rule, mix, d, values));
-        i += 1;
+    for _i in 0..rounds {
+        t = taken_in(t.sum, all_in(t.fingerprint, rule, mix, d, values));
     }
     t.sum
 }

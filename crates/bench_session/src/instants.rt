@@ -17,15 +17,11 @@ fn instants_heard(s: Session, last: usize, mix: u8, values: &[f32], n: usize) ->
     ensures { result ≡ instants_heard last mix values.now s n }
 {
     let mut t = s;
-    let mut at = 0;
     let mut k = 0;
-    let mut i = 0;
-    while i < n {
-        let r = session::instant(t, k, bench_audio::instant_of(mix, &values[at..]));
-        t = r.session;
-        at = at + (mix as usize);
+    for i in 0..n {
+        let at = i * (mix as usize);
+        t = session::instant(t, k, bench_audio::instant_of(mix, &values[at..])).session;
         k = turn_after(k, last);
-        i += 1;
     }
     t
 }
@@ -34,10 +30,7 @@ fn instants_heard(s: Session, last: usize, mix: u8, values: &[f32], n: usize) ->
 pub(crate) fn all_heard(s: Session, count: usize, mix: u8, values: &[f32]) -> Session
     ensures { result ≡ all_heard count mix values.now s }
 {
-    if mix == 0 {
-        return s;
-    }
-    if count == 0 {
+    if mix == 0 || count == 0 {
         return s;
     }
     instants_heard(s, count - 1, mix, values, values.len() / (mix as usize))

@@ -33,11 +33,8 @@ fn field(s: Session, first: usize, step: usize, line: &[u8]) -> Session
     ensures { result ≡ field_lines s first step line.now 16 }
 {
     let mut t = s;
-    let mut k = 0;
-    while k < 16 {
-        let r = session::line(t, first + step * k, line);
-        t = r.session;
-        k += 1;
+    for k in 0..16 {
+        t = session::line(t, first + step * k, line).session;
     }
     t
 }
@@ -49,9 +46,10 @@ fn fields(s: Session, format: u8, line: &[u8]) -> Session
     let row = sampling::row_of(format);
     let one = field(s, row.vstart1, row.vstep, line);
     if row.vstart2 == 0 {
-        return one;
+        one
+    } else {
+        field(one, row.vstart2, row.vstep, line)
     }
-    field(one, row.vstart2, row.vstep, line)
 }
 
 // So many lines that are not monitored.
@@ -59,11 +57,8 @@ fn others(s: Session, n: usize, line: &[u8]) -> Session
     ensures { result ≡ other_lines s line.now n }
 {
     let mut t = s;
-    let mut k = 0;
-    while k < n {
-        let r = session::line(t, 1000, line);
-        t = r.session;
-        k += 1;
+    for _k in 0..n {
+        t = session::line(t, 1000, line).session;
     }
     t
 }
@@ -73,11 +68,8 @@ fn each_heard(s: Session, count: usize, block: &[u8]) -> Session
     ensures { result ≡ each_heard block.now s count }
 {
     let mut t = s;
-    let mut k = 0;
-    while k < count {
-        let r = session::sound(t, k, block);
-        t = r.session;
-        k += 1;
+    for k in 0..count {
+        t = session::sound(t, k, block).session;
     }
     t
 }
@@ -87,10 +79,8 @@ fn heard(s: Session, count: usize, n: usize, block: &[u8]) -> Session
     ensures { result ≡ sounds count block.now s n }
 {
     let mut t = s;
-    let mut k = 0;
-    while k < n {
+    for _k in 0..n {
         t = each_heard(t, count, block);
-        k += 1;
     }
     t
 }
@@ -104,11 +94,12 @@ fn filled(s: Session, load: Load, line: &[u8], block: &[u8]) -> Session
     heard(more, load.count, load.blocks, block)
 }
 
+#[tactic(auto, unfolding(crate::specs::Frames::byte_in))]
 fn byte_in(sum: u64, b: u8) -> u64
     requires { sum < 4294967296 }
     ensures { (result ≡ byte_in sum b) × (result < 4294967296) }
 {
-    (sum * 31 + (b as u64)) % 4294967296
+    (sum * 31 + u64::from(b)) % 4294967296
 }
 
 fn bytes_in(sum: u64, bytes: &[u8]) -> u64
@@ -116,10 +107,8 @@ fn bytes_in(sum: u64, bytes: &[u8]) -> u64
     ensures { (result ≡ bytes_in sum bytes.now) × (result < 4294967296) }
 {
     let mut total = sum;
-    let mut i = 0;
-    while i < bytes.len() {
-        total = byte_in(total, bytes[i]);
-        i += 1;
+    for &b in bytes {
+        total = byte_in(total, b);
     }
     total
 }
@@ -130,11 +119,9 @@ fn packed(ready: Session, sum: u64, line: &[u8], out: &mut [u8]) -> Turn
     ensures { (result ≡ packed_in out.old ready sum) × (result.sum < 4294967296) }
 {
     let packed = session::pack(ready, &line[..0], out);
-    let total = bytes_in(sum, out);
-    let next = packed.session;
     Turn {
-        session: next,
-        sum: total,
+        session: packed.session,
+        sum: bytes_in(sum, out),
     }
 }
 
@@ -142,8 +129,7 @@ fn frame(t: Turn, load: Load, line: &[u8], block: &[u8]) -> Turn
     requires { (t.sum < 4294967296) × (load.room ≤ 254) }
     ensures { (result ≡ frame_of load line.now block.now t) × (result.sum < 4294967296) }
 {
-    let s = t.session;
-    let ready = filled(s, load, line, block);
+    let ready = filled(t.session, load, line, block);
     let mut out = [0u8; 254];
     packed(ready, t.sum, line, &mut out[..load.room])
 }
@@ -153,12 +139,10 @@ fn packed_again(ready: Session, rounds: usize, line: &[u8]) -> u64
     ensures { result ≡ packings ready rounds }
 {
     let mut sum = 0;
-    let mut i = 0;
-    while i < rounds {
-        let mut out = [0u8; 32];
-        let packed = session::pack(ready, &line[..0], &mut out);
+    for _i in 0..rounds {
+        let mut out = [0; 32];
+        session::pack(ready, &line[..0], &mut out);
         sum = bytes_in(sum, &out);
-        i += 1;
     }
     sum
 }
@@ -168,10 +152,7 @@ fn turn_at(format: u8, i: usize) -> usize
     ensures { result ≡ turn_at (row_of format) i }
 {
     let row = sampling::row_of(format);
-    if row.vstart2 == 0 {
-        return i / 2;
-    }
-    i
+    if row.vstart2 == 0 { i / 2 } else { i }
 }
 
 fn frame_at(i: usize, t: Turn, load: Load, even: &[u8], odd: &[u8], block: &[u8]) -> Turn
@@ -190,10 +171,8 @@ fn frames(s: Session, load: Load, rounds: usize, even: &[u8], odd: &[u8], block:
     ensures { result ≡ sum_after load even.now odd.now block.now s rounds }
 {
     let mut t = Turn { session: s, sum: 0 };
-    let mut i = 0;
-    while i < rounds {
+    for i in 0..rounds {
         t = frame_at(i, t, load, even, odd, block);
-        i += 1;
     }
     t.sum
 }
@@ -306,10 +285,8 @@ pub extern "C" fn bench_instants(
     let begun = session::setup(3, 5, rule, mixes);
     let s = begun.session;
     let mut t = Turn { session: s, sum: 0 };
-    let mut i = 0;
-    while i < rounds {
+    for _i in 0..rounds {
         t = instant_frame(t, mixes.len(), mix, line, values);
-        i += 1;
     }
     t.sum
 }

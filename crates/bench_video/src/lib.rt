@@ -13,17 +13,17 @@ struct After {
 }
 
 // Each value told, so that none is left out of what is measured, and the darker pixels twice, so that no two can change places.
+#[tactic(auto, unfolding(crate::specs::Bench::value_of))]
 fn value(told: Told) -> u32
     ensures { (result ≡ value_of told) × (result < 1000000) }
 {
     match told {
-        Told::Open => 0,
-        Told::Nothing => 0,
+        Told::Open | Told::Nothing => 0,
         Told::Value {
             fingerprint,
             brighter,
             darker,
-        } => fingerprint as u32 + brighter as u32 + 2 * darker as u32,
+        } => u32::from(fingerprint) + u32::from(brighter) + 2 * u32::from(darker),
     }
 }
 
@@ -31,15 +31,10 @@ fn value(told: Told) -> u32
 fn step(a: After, format: u8, number: usize, line: &[u8]) -> After
     ensures { result ≡ step_of a format number line.now }
 {
-    let p = a.picture;
-    let lined = picture::line(p, format, number, line);
-    let q = lined.picture;
-    let told = lined.told;
-    let handed = picture::hand_out(q);
-    let r = handed.picture;
+    let lined = picture::line(a.picture, format, number, line);
     After {
-        picture: r,
-        sum: a.sum % 1000000 + value(told),
+        picture: picture::hand_out(lined.picture).picture,
+        sum: a.sum % 1000000 + value(lined.told),
     }
 }
 
@@ -48,15 +43,14 @@ fn step(a: After, format: u8, number: usize, line: &[u8]) -> After
 pub extern "C" fn bench_lines(format: u8, numbers: &[usize], lines: &[u8]) -> u32
     ensures { result ≡ (after_lines format numbers.now lines.now (length numbers.now)).sum }
 {
-    let p = picture::fresh();
-    let mut a = After { picture: p, sum: 0 };
+    let mut a = After {
+        picture: picture::fresh(),
+        sum: 0,
+    };
     let half = lines.len() / 2;
-    let mut i: usize = 0;
-    while i < numbers.len() {
+    for (i, &number) in numbers.iter().enumerate() {
         let from = if i / 16 % 4 < 2 { 0 } else { half };
-        let to = from + half;
-        a = step(a, format, numbers[i], &lines[from..to]);
-        i += 1;
+        a = step(a, format, number, &lines[from..from + half]);
     }
     a.sum
 }

@@ -1,5 +1,5 @@
 -- Laws of a container's bytes: their number, and one fingerprint more.
-use Prim.Native.Nat.{ℕ, zero, suc, ◌+◌, ◌-◌, ◌*◌, ◌≤◌, ◌<◌}
+use Prim.Native.Nat.{ℕ, zero, suc, ◌+◌, ◌-◌, ◌*◌, ◌%◌, ◌≤◌, ◌<◌}
 use mathlib.Core.List.{List, [], ◌∷◌, ◌++◌, append_assoc, append-nil}
 use mathlib.Core.Path.{◌≡◌, refl, ap, ◌∙◌}
 use mathlib.Core.Bool.{Bool, true, false}
@@ -7,7 +7,8 @@ use native.Mathlib.Omega.{arith}
 use native.Mathlib.Numerals.{add-one}
 use native.Mathlib.Nat.{suc-mul, mul-le-mul_right}
 use lib.ListN.{length, get_or, take, length-append}
-use lib.Seq.{length-take-le, take-suc}
+use lib.Seq.{length-take-le, take-suc, take-take, get_or-take}
+use Rattle.std.specs.List.{fold}
 use Rattle.laws.specs.Sums.{sum}
 use Rattle.laws.specs.declared.Video.{Video}
 use Rattle.laws.specs.declared.Video.TheVariants.{Absent, One, Two}
@@ -16,7 +17,16 @@ use Rattle.container.specs.declared.Contents.{Contents}
 use Rattle.container.specs.Contents.{blank_print}
 use Rattle.container.specs.Bytes.{id_bytes, video_bytes, print_bytes, run_bytes, audio_bytes, part_bytes, front_bytes, check_byte, encode}
 use Rattle.container.specs.Sizes.{Sized}
-use Rattle.container.specs.Writing.{Fits}
+use Rattle.container.specs.Writing.{RunFits, Fits}
+
+-- the sum taken byte by byte, each time modulo 256
+sum_fold : (s : List ℕ) (t : ℕ) → t < 256 → fold (λ u b. (u + b) % 256) t s ≡ (t + sum s) % 256
+unfolding sum
+sum_fold [] t h = omega arith
+sum_fold (b ∷ s) t h = omega (arith, sum_fold s ((t + b) % 256) (omega arith))
+
+pub fold_sum : (s : List ℕ) → fold (λ u b. (u + b) % 256) 0 s ≡ sum s % 256
+fold_sum s = omega (arith, sum_fold s 0 (omega arith))
 
 pub print_length : (p : Print) → p.size ≤ length p.bytes → length (print_bytes p) ≡ p.size + 2
 unfolding print_bytes
@@ -53,6 +63,25 @@ pub audio_some : (n : ℕ) (ps : List Print) → (n ≡ 0 → ⊥) → audio_byt
 unfolding audio_bytes
 audio_some zero ps h = absurd (h refl)
 audio_some (suc n) ps h = let e : suc n - 1 ≡ n = omega arith in rw e
+
+audio_of_front : (n : ℕ) (ps : List Print) → audio_bytes n (take n ps) ≡ audio_bytes n ps
+unfolding audio_bytes
+audio_of_front zero ps = refl
+audio_of_front (suc n) ps = rw (take-take (suc n) (suc n) ps (omega arith))
+
+-- the first n fingerprints, on their own
+module _ (n : ℕ) (ps : List Print) (h : n ≤ length ps) where
+  front_length_is : length (take n ps) ≡ n
+  front_length_is = length-take-le n ps h
+
+  pub front_fits : RunFits n ps → RunFits (length (take n ps)) (take n ps)
+  front_fits r = rw front_length_is (record {
+    many = r.many;
+    each = λ k l. rw (get_or-take n ps k blank_print l) (r.each k l);
+  })
+
+  pub audio_front : audio_bytes (length (take n ps)) (take n ps) ≡ audio_bytes n ps
+  audio_front = rw front_length_is (audio_of_front n ps)
 
 -- ---- how many bytes a part has at most
 
@@ -112,3 +141,6 @@ sized c s f = record {
 
 pub at_most_254 : (c : Contents) → Sized c → length (encode c) ≤ 4 + 21 + 3 + 225 + 1
 at_most_254 c z = omega (arith, z.whole, z.id, z.video, z.audio)
+
+pub parts_at_most : (c : Contents) → Shaped c → Fits c → length (part_bytes c) ≤ 249
+parts_at_most c s f = omega (arith, encode_length c, at_most_254 c (sized c s f))

@@ -1,7 +1,7 @@
 -- Laws of writing: the header stored after the parts that it counts, and the call's outcome in each case.
-use Prim.Native.Nat.{ℕ, ◌+◌, ◌≤◌, ◌<◌}
-use mathlib.Core.List.{List, ◌++◌, append_assoc}
-use mathlib.Core.Path.{◌≡◌, refl, sym, ◌∙◌}
+use Prim.Native.Nat.{ℕ, ◌+◌, ◌-◌, ◌≤◌, ◌<◌}
+use mathlib.Core.List.{List, [], ◌∷◌, ◌++◌, append_assoc}
+use mathlib.Core.Path.{◌≡◌, refl, ap, sym, ◌∙◌}
 use mathlib.Core.Bool.{true, false}
 use native.Mathlib.Omega.{arith}
 use lib.ListN.{length, take, drop, length-append}
@@ -10,7 +10,8 @@ use Rattle.laws.specs.Calls.{over}
 use Rattle.laws.proofs.Lists.{sets_over}
 use Rattle.laws.proofs.Calls.{done, told_refused, told_short, told_ok}
 use Rattle.container.specs.declared.Contents.{Contents}
-use Rattle.container.specs.Bytes.{encode}
+use Rattle.container.specs.Bytes.{part_bytes, flag_byte, front_bytes, encode}
+use Rattle.container.proofs.Bytes.{front_length}
 use Rattle.container.specs.Writing.{readable, contents_number, write_number, write_done, write_out}
 
 -- head stored before what already stands from its end on
@@ -28,6 +29,32 @@ head_last o head xs n e h =
 pub take_front : (o front : List ℕ) (n : ℕ) → length front ≡ n → n ≤ length o → take n (sets o 0 front) ≡ front
 unfolding over
 take_front o front n e h = rw (sets_over front o (omega arith)) (take_at front (drop (length front) o) n e)
+
+-- a container's bytes but for the checksum: its parts stored first, then the header that counts them, over a room of out
+pub record Fronted (c : Contents) (out head : List ℕ) (end : ℕ) : Type 0 where
+  pub is : head ≡ sets out 0 (front_bytes c)
+  pub ends : end ≡ length (front_bytes c)
+  pub within : end ≤ 253
+  pub long : 254 ≤ length head
+  pub back : take end head ≡ front_bytes c
+
+pub fronted : (c : Contents) (out parts head : List ℕ) (end flag : ℕ) → length (part_bytes c) ≤ 249 → 254 ≤ length out
+    → end ≡ 4 + length (part_bytes c) → parts ≡ sets out 4 (part_bytes c) → flag ≡ flag_byte c → head ≡ sets parts 0 (0 ∷ c.counter ∷ (end - 2) ∷ flag ∷ [])
+    → Fronted c out head end
+unfolding front_bytes
+fronted c out parts head end flag small room e p f h =
+    let n : end - 2 ≡ length (part_bytes c) + 2 = omega (arith, e) in
+    let is : head ≡ sets out 0 (front_bytes c) =
+    h ∙ rw (p, f, n) (head_last out (0 ∷ c.counter ∷ (length (part_bytes c) + 2) ∷ flag_byte c ∷ []) (part_bytes c) 4 refl (omega (arith, small, room))) in
+    let ends : end ≡ length (front_bytes c) = omega (arith, e, front_length c) in
+    let within : end ≤ 253 = omega (arith, e, small) in
+    record {
+      is = is;
+      ends = ends;
+      within = within;
+      long = omega (arith, ap length is ∙ length-sets out 0 (front_bytes c), room);
+      back = ap (take end) is ∙ take_front out (front_bytes c) end (sym ends) (omega (arith, within, room));
+    }
 
 -- ---- the call
 

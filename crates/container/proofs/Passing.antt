@@ -1,182 +1,176 @@
--- Laws of parts that are passed over: a fingerprint that is not right takes no bytes, and what a loop over a run keeps that only counts them.
-use Prim.Native.Nat.{ℕ, zero, suc, ◌+◌, ◌/◌, ◌%◌, ◌≤◌, ◌<◌}
-use mathlib.Core.List.{List}
-use mathlib.Core.Path.{◌≡◌, refl, ap, sym, ◌∙◌}
-use mathlib.Core.Bool.{Bool, true, false, cond, ◌&&◌, false≢true}
-use native.Mathlib.Numerals.{add-one}
+-- Laws of parts that are passed over: what a fingerprint's bytes say of it, and what a loop over a run keeps that only counts them.
+use Prim.Native.Nat.{ℕ, zero, suc, ◌+◌, ◌/◌, ◌≤◌, ◌<◌}
+use mathlib.Core.List.{List, [], ◌∷◌, ◌++◌}
+use mathlib.Core.Path.{◌≡◌, refl, ap, sym, subst, ◌∙◌}
+use mathlib.Core.Bool.{Bool, true, false, cond, ◌&&◌, false≢true, and_assoc}
 use native.Mathlib.Omega.{arith}
+use Rattle.std.specs.Prelude.{Option, None, Some}
+use Rattle.std.specs.Option.{option_map}
 use lib.Dec.{leb, eqb}
-use lib.ListN.{length, get_or, drop, length-drop, drop_of_length-le}
-use lib.Seq.{drop-cons}
+use lib.ListN.{length, get_or, drop, length-drop, length-append}
 use borrow.Author.Tests.{eq-eqb, ne_eqb, le-leb, leb-true, eqb-true}
-use Rattle.laws.proofs.Tests.{both, chosen, and_stops, and_goes}
-use Rattle.rates.specs.Mixes.{mix_listed}
-use Rattle.rates.specs.Cadence.{count_occurs}
+use Rattle.laws.proofs.Tests.{both}
+use Rattle.container.specs.declared.Print.{Print}
+use Rattle.container.specs.declared.IdPart.{IdPart}
+use Rattle.container.specs.declared.VideoPart.{VideoPart}
 use Rattle.container.specs.declared.PrintPart.{PrintPart}
+use Rattle.container.specs.declared.AudioPart.{AudioPart}
 use Rattle.container.specs.declared.Reading.{Reading}
-use Rattle.container.specs.Contents.{blank_print, all_carry, same_count}
-use Rattle.container.specs.Parts.{no_print, print_part, print_at, Run, run_of, audio_of}
+use Rattle.container.specs.Contents.{all_carry, same_count}
+use Rattle.container.specs.Parts.{print_part, print_at, Run, run_of, audio_of}
 use Rattle.container.specs.Passing.{is_alike}
-use Rattle.container.specs.Reading.{parts_joined, parts_reading}
-use Rattle.container.proofs.Parts.{PrintRight, print_right, print_is, print_used}
-use Rattle.container.proofs.Runs.{Going, going_bad, going_step, going_end, going_print, run_length}
+use Rattle.container.specs.Reading.{refusal, parts_say, id_in, video_in, audio_in, parts_reading}
+use Rattle.container.proofs.Parts.{map_some, PrintRight, print_right, print_is, print_said, first_of}
+use Rattle.container.proofs.Runs.{Going, behind, going_start, going_bad, going_step, going_end}
 
 -- ---- one fingerprint
 
--- one that is right takes its count of bytes and the two in front of them
-pub print_counts : (rate : ℕ) (b : List ℕ) → (print_part rate b).ok ≡ true → (print_part rate b).used ≡ (print_part rate b).print.size + 2
+-- the bytes that one takes
+pub size_right : (rate : ℕ) (b : List ℕ) (size : ℕ) → option_map (λ p. p.used) (print_part rate b) ≡ Some size → PrintRight rate b
+size_right rate b size e = let m = map_some (λ (p : PrintPart). p.used) (print_part rate b) size e in print_right rate b m.part m.is
+
+pub size_is : (rate : ℕ) (b : List ℕ) (size : ℕ) → option_map (λ p. p.used) (print_part rate b) ≡ Some size → size ≡ get_or b 1 0 / 8 + 2
 unfolding print_at
-print_counts rate b e = rw (print_is rate b (print_right rate b e))
+size_is rate b size e =
+    let m = map_some (λ (p : PrintPart). p.used) (print_part rate b) size e in
+    sym m.gives ∙ ap (λ (p : PrintPart). p.used) (print_said rate b m.part m.is)
 
-print_wrong : (rate : ℕ) (b : List ℕ) → (print_part rate b).ok ≡ false → print_part rate b ≡ no_print
-unfolding print_part print_at
-print_wrong rate b =
-    let P : PrintPart → Type 0 = λ p. p.ok ≡ false → p ≡ no_print in
-    chosen P (leb 2 (length b)) _ _
-    (λ _. chosen P (mix_listed (get_or b 0 0 % 8)) _ _
-    (λ _. chosen P (eqb (get_or b 1 0 % 8) 0) _ _
-    (λ _. chosen P (count_occurs rate (get_or b 1 0 / 8)) _ _
-    (λ _. chosen P (leb (get_or b 1 0 / 8 + 2) (length b)) _ _ (λ _ e. absurd (false≢true (sym e))) (λ _ _. refl)) (λ _ _. refl)) (λ _ _. refl)) (λ _ _. refl))
-    (λ _ _. refl)
-
-pub print_none : (rate : ℕ) (b : List ℕ) → (print_part rate b).used ≡ 0 → (print_part rate b).ok ≡ false
-print_none rate b e = go (print_part rate b).ok refl
-  where
-    go : (t : Bool) → (print_part rate b).ok ≡ t → (print_part rate b).ok ≡ false
-    go true h = absurd (let z : ⊥ = omega (arith, print_counts rate b h, e) in z)
-    go false h = h
-
-pub print_no : (rate : ℕ) (b : List ℕ) → (print_part rate b).used ≡ 0 → print_part rate b ≡ no_print
-print_no rate b e = print_wrong rate b (print_none rate b e)
-
-pub print_some : (rate : ℕ) (b : List ℕ) → ((print_part rate b).used ≡ 0 → ⊥) → (print_part rate b).ok ≡ true
-print_some rate b n = go (print_part rate b).ok refl
-  where
-    go : (t : Bool) → (print_part rate b).ok ≡ t → (print_part rate b).ok ≡ true
-    go true h = h
-    go false h = absurd (n (ap (λ (p : PrintPart). p.used) (print_wrong rate b h)))
-
-pub right_takes : (rate : ℕ) (b : List ℕ) → PrintRight rate b → (print_part rate b).used ≡ get_or b 1 0 / 8 + 2
-unfolding print_at
-right_takes rate b r = ap (λ (p : PrintPart). p.used) (print_is rate b r)
-
--- one that is right, and what another has to be that takes as many bytes
+-- what another has to be that takes as many bytes as a right one
 module _ (rate : ℕ) (first b : List ℕ) (r : PrintRight rate first) where
-  pub print_size : (print_part rate first).print.size ≡ get_or first 1 0 / 8
-  unfolding print_at
-  print_size = ap (λ (p : PrintPart). p.print.size) (print_is rate first r)
-
-  pub alike_takes : is_alike (get_or first 1 0) b ≡ true → (print_part rate b).used ≡ get_or first 1 0 / 8 + 2
+  pub alike_is : is_alike (get_or first 1 0) b ≡ true → get_or b 1 0 ≡ get_or first 1 0
   unfolding is_alike
-  alike_takes e =
+  alike_is e = eqb-true (get_or b 1 0) (get_or first 1 0) (both (eqb (get_or b 1 0) (get_or first 1 0)) _ (both (leb (get_or first 1 0 / 8 + 2) (length b)) _ e).1).0
+
+  pub alike_right : is_alike (get_or first 1 0) b ≡ true → PrintRight rate b
+  unfolding is_alike
+  alike_right e =
       let p = both (leb (get_or first 1 0 / 8 + 2) (length b)) _ e in
       let q = both (eqb (get_or b 1 0) (get_or first 1 0)) _ p.1 in
       let l = leb-true (get_or first 1 0 / 8 + 2) (length b) p.0 in
-      let s : get_or b 1 0 ≡ get_or first 1 0 = eqb-true (get_or b 1 0) (get_or first 1 0) q.0 in
-      right_takes rate b (record { two = omega (arith, l); mix = q.1; low = rw s r.low; occurs = rw s r.occurs; fits = rw s l })
-      ∙ ap (λ (n : ℕ). n / 8 + 2) s
+      let s = alike_is e in
+      record { two = omega (arith, l); mix = q.1; low = rw s r.low; occurs = rw s r.occurs; fits = rw s l }
 
-  pub unlike_takes : is_alike (get_or first 1 0) b ≡ false → (print_part rate b).used ≡ get_or first 1 0 / 8 + 2 → ⊥
-  unfolding is_alike
-  unlike_takes e u =
-      let q = print_right rate b (print_some rate b (λ z. omega (arith, z, u))) in
-      let s : get_or b 1 0 ≡ get_or first 1 0 = omega (arith, u, right_takes rate b q, q.low, r.low) in
-      let l : get_or first 1 0 / 8 + 2 ≤ length b = omega (arith, q.fits, s) in
-      false≢true (sym e ∙ rw (le-leb (get_or first 1 0 / 8 + 2) (length b) l, eq-eqb (get_or b 1 0) (get_or first 1 0) s, q.mix))
-
--- ---- the part that a run makes
-
-pub no_run : (n : ℕ) (r : Run) → r.ok ≡ false → (audio_of n r).used ≡ 0
-unfolding audio_of
-no_run n r e = rw e
-
-unlike_run : (n : ℕ) (r : Run) → same_count r.list ≡ false → (audio_of n r).used ≡ 0
-unfolding audio_of
-unlike_run n r e = go r.ok refl
-  where
-    go : (t : Bool) → r.ok ≡ t → (audio_of n r).used ≡ 0
-    go true h = rw (h, e)
-    go false h = rw h
-
-whole_run : (n : ℕ) (r : Run) → r.ok ≡ true → same_count r.list ≡ true → (audio_of n r).used ≡ r.used + 1
-unfolding audio_of
-whole_run n r e f = rw (e, f)
-
--- a run that is right makes a part that takes bytes, and one that is not makes none
-pub run_ok : (n : ℕ) (r : Run) → ((audio_of n r).used ≡ 0 → ⊥) → (audio_of n r).ok ≡ true
-unfolding audio_of
-run_ok n r h = go r.ok (same_count r.list) refl refl
-  where
-    go : (t u : Bool) → r.ok ≡ t → same_count r.list ≡ u → (audio_of n r).ok ≡ true
-    go true true e f = rw (e, f)
-    go true false e f = absurd (h (unlike_run n r f))
-    go false u e f = absurd (h (no_run n r e))
-
-pub run_wrong : (n : ℕ) (r : Run) → (audio_of n r).used ≡ 0 → (audio_of n r).ok ≡ false
-unfolding audio_of
-run_wrong n r h = go r.ok (same_count r.list) refl refl
-  where
-    go : (t u : Bool) → r.ok ≡ t → same_count r.list ≡ u → (audio_of n r).ok ≡ false
-    go true true e f = absurd (let z : ⊥ = omega (arith, whole_run n r e f, h) in z)
-    go true false e f = rw (e, f)
-    go false u e f = rw e
+  pub unlike_size : is_alike (get_or first 1 0) b ≡ false → (q : PrintPart) → print_part rate b ≡ Some q → eqb q.print.size (get_or first 1 0 / 8) ≡ false
+  unfolding is_alike print_at
+  unlike_size e q h =
+      let o = print_right rate b q h in
+      rw (print_said rate b q h)
+      (ne_eqb (get_or b 1 0 / 8) (get_or first 1 0 / 8) (λ z.
+      let s : get_or b 1 0 ≡ get_or first 1 0 = omega (arith, z, o.low, r.low) in
+      let l : get_or first 1 0 / 8 + 2 ≤ length b = omega (arith, o.fits, s) in
+      false≢true (sym e ∙ rw (le-leb (get_or first 1 0 / 8 + 2) (length b) l, eq-eqb (get_or b 1 0) (get_or first 1 0) s, o.mix))))
 
 -- ---- a run, one fingerprint after the other
 
--- what is left of the test that all carry the first one's count
-abbrev pub Carried : ℕ → ℕ → List ℕ → ℕ → Type 0
-Carried rate n b k = same_count (run_of rate n b).list ≡ all_carry (print_part rate b).print.size (drop k (run_of rate n b).list)
+carry_append : (m : ℕ) (ps qs : List Print) → all_carry m (ps ++ qs) ≡ (all_carry m ps && all_carry m qs)
+unfolding all_carry
+carry_append m [] qs = refl
+carry_append m (p ∷ ps) qs = ap (λ t. eqb p.size m && t) (carry_append m ps qs) ∙ sym (and_assoc (eqb p.size m) (all_carry m ps) (all_carry m qs))
 
-pub carried_start : (rate n : ℕ) (b : List ℕ) → 1 ≤ n → Carried rate n b 0
-unfolding same_count run_of
-carried_start rate zero b h = absurd (let z : ⊥ = omega arith in z)
-carried_start rate (suc n) b h = refl
+-- a run's fingerprints carry one count where they carry the first one's
+first_counts : (rate n : ℕ) (b : List ℕ) (r : Run) → 1 ≤ n → run_of rate n b ≡ Some r → same_count r.list ≡ all_carry (get_or b 1 0 / 8) r.list
+unfolding same_count print_at
+first_counts rate zero b r h e = absurd (let z : ⊥ = omega arith in z)
+first_counts rate (suc n) b r h e =
+    let q = first_of rate n b r e in
+    rw (q.whole, ap (λ (p : PrintPart). p.print.size) (print_said rate b q.first q.first_is)) refl
 
-module _ (rate n : ℕ) (b : List ℕ) (k p : ℕ) (g : Going rate n b k p) (c : Carried rate n b k) where
-  abbrev this : PrintPart
-  this = print_part rate (drop p b)
+-- k fingerprints are passed, of p bytes, each with the first one's count
+pub record Passed (rate n : ℕ) (b : List ℕ) (k p : ℕ) : Type 0 where
+  pub prints : List Print
+  pub many : length prints ≡ k
+  pub going : Going rate n b prints p
+  pub alike : all_carry (get_or b 1 0 / 8) prints ≡ true
 
-  abbrev size : ℕ
-  size = (print_part rate b).print.size
+pub passed_start : (rate n : ℕ) (b : List ℕ) → Passed rate n b 0 0
+unfolding all_carry
+passed_start rate n b = record { prints = []; many = refl; going = going_start rate n b; alike = refl }
 
-  turn : k < n → same_count (run_of rate n b).list ≡ (eqb this.print.size size && all_carry size (drop (k + 1) (run_of rate n b).list))
-  unfolding all_carry
-  turn h = c ∙ rw (drop-cons (run_of rate n b).list k blank_print (rw run_length h), going_print rate n b k p g h, add-one)
+-- a first one that is wrong
+pub passed_none : (rate n : ℕ) (b : List ℕ) → 1 ≤ n → print_part rate b ≡ None → audio_of n (run_of rate n b) ≡ None
+unfolding audio_of
+passed_none rate n b h e = rw (going_bad rate n b [] 0 (going_start rate n b) h e)
 
-  pub pass_wrong : k < n → (this.used ≡ size + 2 → ⊥) → (audio_of n (run_of rate n b)).used ≡ 0
-  pass_wrong h d = go this.ok refl
-    where
-      go : (t : Bool) → this.ok ≡ t → (audio_of n (run_of rate n b)).used ≡ 0
-      go true e =
-          unlike_run n (run_of rate n b)
-          (turn h ∙ and_stops _ _ (ne_eqb this.print.size size (λ z. d (print_counts rate (drop p b) e ∙ ap (λ (m : ℕ). m + 2) z))))
-      go false e = no_run n (run_of rate n b) (going_bad rate n b k p g h e)
+module _ (rate n : ℕ) (b : List ℕ) (k p : ℕ) (g : Passed rate n b k p) (r : PrintRight rate b) where
+  abbrev counted : ℕ
+  counted = get_or b 1 0
 
-  module _ (h : k < n) (e : this.used ≡ size + 2) where
-    here : this.ok ≡ true
-    here = print_some rate (drop p b) (λ z. omega (arith, z, e))
+  module _ (h : k < n) where
+    within : length g.prints < n
+    within = omega (arith, g.many)
 
-    pub pass_going : Going rate n b (k + 1) (p + this.used)
-    pass_going = going_step rate n b k p g h here
+    pub pass_wrong : is_alike counted (drop p b) ≡ false → audio_of n (run_of rate n b) ≡ None
+    unfolding audio_of all_carry
+    pass_wrong e = go (print_part rate (drop p b)) refl
+      where
+        more : (q : PrintPart) → eqb q.print.size (counted / 8) ≡ false → (o : Option Run) → run_of rate n b ≡ option_map (behind (g.prints ++ q.print ∷ []) (p + q.used)) o → audio_of n (run_of rate n b) ≡ None
+        more q d None f = rw f
+        more q d (Some s) f =
+            rw (
+              f,
+              first_counts rate n b (behind (g.prints ++ q.print ∷ []) (p + q.used) s) (omega arith) f,
+              carry_append (counted / 8) (g.prints ++ q.print ∷ []) s.list,
+              carry_append (counted / 8) g.prints (q.print ∷ []),
+              g.alike,
+              d,
+            )
 
-    pub pass_carried : Carried rate n b (k + 1)
-    pass_carried = turn h ∙ and_goes _ _ (eq-eqb this.print.size size (omega (arith, e, print_counts rate (drop p b) here)))
+        go : (o : Option PrintPart) → print_part rate (drop p b) ≡ o → audio_of n (run_of rate n b) ≡ None
+        go None f = rw (going_bad rate n b g.prints p g.going within f)
+        go (Some q) f = more q (unlike_size rate b (drop p b) r e q f) _ (going_step rate n b g.prints p g.going within q f)
 
-    pub pass_within : p ≤ length b → p + this.used ≤ length b
-    pass_within l = let u = print_used rate (drop p b) here in omega (arith, rw length-drop at u)
+    module _ (e : is_alike counted (drop p b) ≡ true) where
+      here : PrintRight rate (drop p b)
+      here = alike_right rate b (drop p b) r e
 
-  pub pass_end : n ≤ k → (audio_of n (run_of rate n b)).used ≡ p + 1
-  unfolding all_carry
-  pass_end h =
-      let e = going_end rate n b k p g h in
-      whole_run n (run_of rate n b) e.0 (c ∙ rw (drop_of_length-le (run_of rate n b).list {i = k} (rw run_length h))) ∙ ap (λ (m : ℕ). m + 1) e.1
+      same : get_or (drop p b) 1 0 ≡ counted
+      same = alike_is rate b (drop p b) r e
+
+      pub pass_next : Passed rate n b (k + 1) (p + (counted / 8 + 2))
+      unfolding print_at all_carry
+      pass_next =
+          let q : PrintPart = print_at (drop p b) in
+          record {
+            prints = g.prints ++ q.print ∷ [];
+            many = length-append g.prints (q.print ∷ []) ∙ omega (arith, g.many);
+            going = subst (Going rate n b (g.prints ++ q.print ∷ [])) (ap (λ (m : ℕ). p + (m / 8 + 2)) same) (going_step rate n b g.prints p g.going within q (print_is rate (drop p b) here));
+            alike = rw (carry_append (counted / 8) g.prints (q.print ∷ []), g.alike, eq-eqb (get_or (drop p b) 1 0 / 8) (counted / 8) (ap (λ (m : ℕ). m / 8) same)) refl;
+          }
+
+      pub pass_within : p ≤ length b → p + (counted / 8 + 2) ≤ length b
+      pass_within l = omega (arith, rw length-drop at here.fits, same)
+
+  pub pass_end : 1 ≤ n → n ≤ k → option_map (λ a. a.used) (audio_of n (run_of rate n b)) ≡ Some (p + 1)
+  unfolding audio_of
+  pass_end m h =
+      let e = going_end rate n b g.prints p g.going (omega (arith, g.many)) in
+      rw (e, first_counts rate n b _ m e, g.alike) refl
 
 -- ---- the number of a reading does not turn on the counter
 
-cond_number : (t : Bool) (x y : Reading) → (cond t x y).number ≡ cond t x.number y.number
-cond_number true x y = refl
-cond_number false x y = refl
+either_way : (t : Bool) (x y z : Reading) → x.number ≡ y.number → (cond t x z).number ≡ (cond t y z).number
+either_way true x y z h = h
+either_way false x y z h = refl
 
-pub any_counter : (c d flags : ℕ) (b : List ℕ) → (parts_reading c flags b).number ≡ (parts_reading d flags b).number
-unfolding parts_reading parts_joined
-any_counter c d flags b = simp cond_number
+module _ (c d flags : ℕ) (b : List ℕ) where
+  abbrev Same : Type 0
+  Same = (parts_reading c flags b).number ≡ (parts_reading d flags b).number
+
+  by_audio : (i : IdPart) → id_in flags b ≡ Some i → (v : VideoPart) → video_in flags i.used b ≡ Some v → (o : Option AudioPart) → audio_in flags (i.used + v.used) b ≡ o → Same
+  unfolding parts_reading
+  by_audio i ei v ev None e = rw (ei, ev, e) refl
+  by_audio i ei v ev (Some a) e =
+      rw (ei, ev, e) (either_way (eqb (i.used + v.used + a.used) (length b)) (parts_say c flags i v a) (parts_say d flags i v a) (refusal 28) refl)
+
+  by_video : (i : IdPart) → id_in flags b ≡ Some i → (o : Option VideoPart) → video_in flags i.used b ≡ o → Same
+  unfolding parts_reading
+  by_video i ei None e = rw (ei, e) refl
+  by_video i ei (Some v) e = by_audio i ei v e (audio_in flags (i.used + v.used) b) refl
+
+  by_id : (o : Option IdPart) → id_in flags b ≡ o → Same
+  unfolding parts_reading
+  by_id None e = rw e refl
+  by_id (Some i) e = by_video i e (video_in flags i.used b) refl
+
+  pub any_counter : (parts_reading c flags b).number ≡ (parts_reading d flags b).number
+  any_counter = by_id (id_in flags b) refl

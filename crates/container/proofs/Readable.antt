@@ -1,15 +1,15 @@
 -- Laws of the tests on contents, and what readable contents give the writers.
-use Prim.Native.Nat.{ℕ, zero, suc, ◌+◌, ◌-◌, ◌≤◌, ◌<◌}
-use mathlib.Core.List.{List, [], ◌∷◌}
-use mathlib.Core.Path.{◌≡◌, refl}
-use mathlib.Core.Bool.{Bool, true, false, cond, ◌&&◌}
+use Prim.Native.Nat.{ℕ, zero, suc, ◌≤◌, ◌<◌}
+use mathlib.Core.List.{List, [], ◌∷◌, ◌++◌}
+use mathlib.Core.Path.{◌≡◌, refl, ap, sym, ◌∙◌}
+use mathlib.Core.Bool.{true, ◌&&◌, and_assoc}
+use Rattle.std.specs.List.{list_all}
 use native.Mathlib.Omega.{arith}
-use native.Mathlib.Numerals.{add-one}
 use native.Mathlib.Nat.{not-suc-le-zero, le_of_suc-le-suc}
-use lib.ListN.{length, get_or, take, drop, drop_of_length-le}
-use lib.Seq.{drop-cons}
-use lib.Dec.{leb, ltb, eqb}
-use borrow.Author.Tests.{ltb-true, ltb-false, leb-true}
+use lib.ListN.{length, get_or, take, replicate}
+use lib.Pointwise.{pointwise}
+use lib.Dec.{leb, eqb}
+use borrow.Author.Tests.{leb-true}
 use Rattle.laws.proofs.Tests.{both}
 use Rattle.rates.specs.Rates.{rate_listed}
 use Rattle.rates.specs.Mixes.{mix_listed}
@@ -21,57 +21,51 @@ use Rattle.container.specs.declared.Contents.{Contents}
 use Rattle.container.specs.Contents.{blank_print, all_carry, same_count}
 use Rattle.container.specs.Writing.{all_zero, id_readable, video_readable, print_readable, print_blank, prints_readable, readable, PrintFits, Fits}
 
-pub zero_step : (s : List ℕ) (i : ℕ) → i < length s → all_zero (drop i s) ≡ (eqb (get_or s i 0) 0 && all_zero (drop (i + 1) s))
+pub zeros_all : (s : List ℕ) → all_zero s ≡ list_all (λ x. eqb x 0) s
 unfolding all_zero
-zero_step s i h = rw (add-one, drop-cons s i 0)
+zeros_all [] = refl
+zeros_all (x ∷ s) = ap (λ t. eqb x 0 && t) (zeros_all s)
 
-pub zero_end : (s : List ℕ) (i : ℕ) → length s ≤ i → all_zero (drop i s) ≡ true
+-- whether they are those of as many zeros
+pub zeros_same : (s : List ℕ) (n : ℕ) → length s ≡ n → pointwise eqb s (replicate n 0) ≡ all_zero s
 unfolding all_zero
-zero_end s i h = rw drop_of_length-le
+zeros_same [] zero e = refl
+zeros_same [] (suc n) e = absurd (let z : ⊥ = omega arith in z)
+zeros_same (x ∷ s) zero e = absurd (let z : ⊥ = omega arith in z)
+zeros_same (x ∷ s) (suc n) e = ap (λ t. eqb x 0 && t) (zeros_same s n (omega arith))
 
--- one place more
-module _ (rate n : ℕ) (ps : List Print) (k : ℕ) (d : Print) (h : k < length ps) where
-  abbrev here : Bool → Bool
-  here t = cond t (print_readable rate (get_or ps k d)) (print_blank (get_or ps k d)) && prints_readable rate (n - (k + 1)) (drop (k + 1) ps)
-
-  by_place : (t : Bool) → ltb k n ≡ t → prints_readable rate (n - k) (drop k ps) ≡ here t
-  unfolding prints_readable
-  by_place true e =
-      let l = ltb-true k n e in
-      let q : n - k ≡ suc (n - (k + 1)) = omega arith in
-      rw (q, add-one k, drop-cons ps k d)
-  by_place false e =
-      let l = ltb-false k n e in
-      let q : n - k ≡ 0 = omega arith in
-      let r : n - suc k ≡ 0 = omega arith in
-      rw (q, add-one k, r, drop-cons ps k d)
-
-  pub place_step : prints_readable rate (n - k) (drop k ps) ≡ here (ltb k n)
-  place_step = by_place (ltb k n) refl
-
-place_nil : (rate m : ℕ) → prints_readable rate m [] ≡ true
+blanks_all : (rate : ℕ) (ps : List Print) → prints_readable rate 0 ps ≡ list_all print_blank ps
 unfolding prints_readable
-place_nil rate m = refl
+blanks_all rate [] = refl
+blanks_all rate (p ∷ ps) = ap (λ t. print_blank p && t) (blanks_all rate ps)
 
-pub place_end : (rate n : ℕ) (ps : List Print) (k : ℕ) → length ps ≤ k → prints_readable rate (n - k) (drop k ps) ≡ true
-place_end rate n ps k h = rw drop_of_length-le (place_nil rate (n - k))
+pub places_all : (rate : ℕ) (used unused : List Print)
+    → prints_readable rate (length used) (used ++ unused) ≡ (list_all (print_readable rate) used && list_all print_blank unused)
+unfolding prints_readable
+places_all rate [] unused = blanks_all rate unused
+places_all rate (p ∷ used) unused = ap (λ t. print_readable rate p && t) (places_all rate used unused) ∙ sym (and_assoc (print_readable rate p) (list_all (print_readable rate) used) (list_all print_blank unused))
 
 -- ---- fingerprints of one count
+
+carry_all : (n : ℕ) (ps : List Print) → all_carry n ps ≡ list_all (λ p. eqb p.size n) ps
+unfolding all_carry
+carry_all n [] = refl
+carry_all n (p ∷ ps) = ap (λ t. eqb p.size n && t) (carry_all n ps)
+
+pub same_all : (p : Print) (ps : List Print) → get_or ps 0 blank_print ≡ p → same_count ps ≡ list_all (λ q. eqb q.size p.size) ps
+unfolding same_count
+same_all p ps e = rw e (carry_all p.size ps)
+
+pub same_none : (ps : List Print) → length ps ≡ 0 → same_count ps ≡ true
+unfolding same_count all_carry
+same_none [] e = refl
+same_none (p ∷ ps) e = absurd (let z : ⊥ = omega (arith, e) in z)
 
 pub same_first : (n : ℕ) (ps : List Print) → same_count (take n ps) ≡ all_carry (get_or ps 0 blank_print).size (take n ps)
 unfolding same_count all_carry
 same_first zero ps = refl
 same_first (suc n) [] = refl
 same_first (suc n) (p ∷ ps) = refl
-
-pub carry_step : (m n : ℕ) (ps : List Print) (k : ℕ) (d : Print) → k < n → k < length ps
-    → all_carry m (take (n - k) (drop k ps)) ≡ (eqb (get_or ps k d).size m && all_carry m (take (n - (k + 1)) (drop (k + 1) ps)))
-unfolding all_carry
-carry_step m n ps k d h l = let q : n - k ≡ suc (n - (k + 1)) = omega arith in rw (q, add-one k, drop-cons ps k d)
-
-pub carry_end : (m n : ℕ) (ps : List Print) (k : ℕ) → n ≤ k → all_carry m (take (n - k) (drop k ps)) ≡ true
-unfolding all_carry
-carry_end m n ps k h = let q : n - k ≡ 0 = omega arith in rw q
 
 -- ---- what the writers ask
 

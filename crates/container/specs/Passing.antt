@@ -1,5 +1,5 @@
 -- What is asked of a fingerprint that is only passed over, after a right one: for a private function, and no other definition names it. That it is what is left
--- of `print_part` and `same_count` there is proved (`Passing.alike_takes`, `unlike_takes`).
+-- of `print_part` and `same_count` there is proved (`Passing.alike_right`, `unlike_size`).
 use Rattle.std.specs.Prelude.{ℕ, ◌+◌, ◌/◌, ◌%◌, List, Bool, ◌&&◌, length, get_or, leb, eqb}
 use Rattle.rates.specs.Mixes.{mix_listed}
 

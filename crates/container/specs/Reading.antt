@@ -1,5 +1,5 @@
 -- Read container (01, What a caller is told): the first refusal in the paper's order, or what the container says.
-use Rattle.std.specs.Prelude.{ℕ, ◌+◌, ◌-◌, ◌/◌, ◌%◌, List, cond, length, get_or, take, drop, leb, ltb, eqb}
+use Rattle.std.specs.Prelude.{ℕ, ◌+◌, ◌-◌, ◌/◌, ◌%◌, List, Option, cond, length, get_or, take, drop, leb, ltb, eqb}
 use Rattle.laws.specs.Calls.{unless}
 use Rattle.laws.specs.Sums.{sum}
 use Rattle.rates.specs.Rates.{rate_listed}
@@ -8,7 +8,7 @@ use Rattle.container.specs.declared.VideoPart.{VideoPart}
 use Rattle.container.specs.declared.AudioPart.{AudioPart}
 use Rattle.container.specs.declared.Reading.{Reading}
 use Rattle.container.specs.Contents.{empty_contents}
-use Rattle.container.specs.Parts.{id_part, video_part, audio_part}
+use Rattle.container.specs.Parts.{with_part, id_part, video_part, audio_part}
 
 -- "20 under 5 bytes; 21 version; 22 size not Length + 3; 23 checksum; 24 rate code or bit 3", or 0
 unfoldable pub header_number : List ℕ → ℕ
@@ -41,28 +41,25 @@ parts_say counter flags i v a =
       };
     }
 
--- "25 ID part; 26 video part; 27 audio part; 28 bytes left over"
-unfoldable pub parts_joined : ℕ → ℕ → List ℕ → IdPart → VideoPart → AudioPart → Reading
-parts_joined counter flags b i v a =
-    cond i.ok
-    (cond v.ok
-    (cond a.ok
-    (cond (eqb (i.used + v.used + a.used) (length b))
-    (parts_say counter flags i v a)
-    (refusal 28)) (refusal 27)) (refusal 26)) (refusal 25)
-
--- each part at the start of what the parts before it left
-abbrev pub id_in : ℕ → List ℕ → IdPart
+-- each part at the start of what the parts before it left: their bytes, used
+abbrev pub id_in : ℕ → List ℕ → Option IdPart
 id_in flags b = id_part (flags / 4 % 2) b
 
-abbrev pub video_in : ℕ → List ℕ → VideoPart
-video_in flags b = video_part (flags / 2 % 2) (flags / 16) (drop (id_in flags b).used b)
+abbrev pub video_in : ℕ → ℕ → List ℕ → Option VideoPart
+video_in flags used b = video_part (flags / 2 % 2) (flags / 16) (drop used b)
 
-abbrev pub audio_in : ℕ → List ℕ → AudioPart
-audio_in flags b = audio_part (flags % 2) (flags / 16) (drop ((id_in flags b).used + (video_in flags b).used) b)
+abbrev pub audio_in : ℕ → ℕ → List ℕ → Option AudioPart
+audio_in flags used b = audio_part (flags % 2) (flags / 16) (drop used b)
 
+-- "25 ID part; 26 video part; 27 audio part; 28 bytes left over"
 unfoldable pub parts_reading : ℕ → ℕ → List ℕ → Reading
-parts_reading counter flags b = parts_joined counter flags b (id_in flags b) (video_in flags b) (audio_in flags b)
+parts_reading counter flags b =
+    with_part (id_in flags b) (refusal 25) (λ i.
+    with_part (video_in flags i.used b) (refusal 26) (λ v.
+    with_part (audio_in flags (i.used + v.used) b) (refusal 27) (λ a.
+    cond (eqb (i.used + v.used + a.used) (length b))
+    (parts_say counter flags i v a)
+    (refusal 28))))
 
 -- the bytes between the flags and the checksum
 unfoldable pub middle : List ℕ → List ℕ

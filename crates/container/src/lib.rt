@@ -1,7 +1,7 @@
 // A container: what it says, read from its bytes and written to them (01, The container; 000, 6).
 #![tactic(auto)]
 
-ghost use Rattle.std.specs.Prelude.{◌≡◌, ◌%◌, ◌≤◌, length, take};
+ghost use Rattle.std.specs.Prelude.{◌≡◌, ◌%◌, length};
 ghost use Rattle.laws.specs.Sums.{sum};
 ghost use Rattle.container.specs.Contents.{blank_print, empty_contents, same_count};
 ghost use Rattle.container.specs.Reading.{reading};
@@ -15,7 +15,7 @@ mod valid;
 mod write;
 
 // One audio fingerprint: AFDataCount is its size, and unused bytes are zero.
-#[derive(Clone, Copy)]
+#[derive(Clone, Copy, PartialEq, Eq)]
 pub struct Print {
     pub id: u8,
     pub mix: u8,
@@ -41,41 +41,30 @@ pub struct Reading {
     pub contents: Contents,
 }
 
-// A part as it is read: whether it is right, how many bytes it takes, and what it says.
+// A part that is right, as it is read: how many bytes it takes, and what it says.
 #[derive(Clone, Copy)]
 pub struct IdPart {
-    pub ok: bool,
     pub used: usize,
     pub id: [u8; 20],
 }
 
 #[derive(Clone, Copy)]
 pub struct VideoPart {
-    pub ok: bool,
     pub used: usize,
     pub video: Video,
 }
 
 #[derive(Clone, Copy)]
 pub struct PrintPart {
-    pub ok: bool,
     pub used: usize,
     pub print: Print,
 }
 
 #[derive(Clone, Copy)]
 pub struct AudioPart {
-    pub ok: bool,
     pub used: usize,
     pub count: u8,
     pub prints: [Print; 32],
-}
-
-// A part that is passed over: whether it is right, and how many bytes it takes.
-#[derive(Clone, Copy)]
-pub struct Span {
-    pub ok: bool,
-    pub used: usize,
 }
 
 // A place for a fingerprint that is not used: "unused places are zero".
@@ -94,7 +83,6 @@ pub fn blank_print() -> Print
 pub fn empty_contents() -> Contents
     ensures { result ≡ empty_contents }
 {
-    let none = blank_print();
     Contents {
         counter: 0,
         rate: 0,
@@ -102,7 +90,7 @@ pub fn empty_contents() -> Contents
         id: [0u8; 20],
         video: Video::Absent,
         count: 0,
-        prints: [none; 32],
+        prints: [blank_print(); 32],
     }
 }
 
@@ -110,33 +98,21 @@ pub fn empty_contents() -> Contents
 fn byte_sum(s: &[u8]) -> u8
     ensures { result ≡ sum s.now % 256 }
 {
-    let mut total: u32 = 0;
-    let mut i = 0;
-    while i < s.len() {
-        total = (total + s[i] as u32) % 256;
-        i += 1;
-    }
-    total as u8
+    s.iter().fold(0, |total, &b| total.wrapping_add(b))
 }
 
-// Whether the first n fingerprints carry the same count: "every fingerprint of a container" (02, A2).
-fn same_count(prints: [Print; 32], n: usize) -> bool
-    requires { n ≤ 32 }
-    ensures { result ≡ same_count (take n prints) }
+// Whether the fingerprints carry the same count: "every fingerprint of a container" (02, A2).
+fn same_count(prints: &[Print]) -> bool
+    ensures { result ≡ same_count prints.now }
 {
-    let first = prints[0];
-    let mut k = 0;
-    while k < n {
-        let p = prints[k];
-        if p.size != first.size {
-            return false;
-        }
-        k += 1;
-    }
-    true
+    let Some(first) = prints.first() else {
+        return true;
+    };
+    prints.iter().all(|p| p.size == first.size)
 }
 
 // Read container: 20 to 28.
+#[tactic(auto, unfolding(crate::specs::Reading::reading, crate::specs::Reading::middle))]
 pub fn read_container(bytes: &[u8]) -> Reading
     ensures { result ≡ reading bytes.now }
 {
@@ -149,6 +125,7 @@ pub fn read_container(bytes: &[u8]) -> Reading
 }
 
 // The number alone that Read container answers: 20 to 28, or 0.
+#[tactic(auto, unfolding(crate::specs::Reading::reading, crate::specs::Reading::middle))]
 pub fn container_number(bytes: &[u8]) -> u8
     ensures { result ≡ (reading bytes.now).number }
 {

@@ -1,6 +1,6 @@
 // Reading a container: the header's refusals, and the parts one after the other.
-ghost use Rattle.std.specs.Prelude.{◌≡◌, ◌+◌, ◌≤◌, length};
-ghost use Rattle.container.specs.Parts.{id_part, one_field, both_fields, video_part, no_video, no_print, print_part, run_of, no_audio, audio_of, audio_part};
+ghost use Rattle.std.specs.Prelude.{◌≡◌, ◌≤◌, length};
+ghost use Rattle.container.specs.Parts.{id_part, video_part, print_part, run_of, audio_of, audio_part};
 ghost use Rattle.container.specs.Reading.{header_number, refusal, parts_reading};
 
 use crate::pass::print_size;
@@ -9,9 +9,11 @@ use crate::{
 };
 use laws::Video;
 
-// The first of 20 to 24 that applies, or 0.
+// The first of 20 to 24 that applies, or 0: then the bytes around the parts are there.
+#[tactic(auto, unfolding(crate::specs::Reading::header_number))]
 pub(crate) fn header_number(s: &[u8]) -> u8
-    ensures { result ≡ header_number s.now }
+    ensures number { result ≡ header_number s.now }
+    ensures five { result ≡ 0 → 5 ≤ length s.now }
 {
     if s.len() < 5 {
         return 20;
@@ -19,230 +21,121 @@ pub(crate) fn header_number(s: &[u8]) -> u8
     if s[0] != 0 {
         return 21;
     }
-    let counted = s[2] as usize;
-    if s.len() != counted + 3 {
+    if s.len() != usize::from(s[2]) + 3 {
         return 22;
     }
     if crate::byte_sum(s) != 0 {
         return 23;
     }
-    let flags = s[3];
-    if !rates::rate_listed(flags / 16) {
-        return 24;
-    }
-    if 8 <= flags % 16 {
+    if !rates::rate_listed(s[3] / 16) || 8 <= s[3] % 16 {
         return 24;
     }
     0
 }
 
-pub(crate) fn read_id(flag: u8, b: &[u8]) -> IdPart
+#[tactic(auto, unfolding(crate::specs::Parts::id_part))]
+pub(crate) fn read_id(flag: u8, b: &[u8]) -> Option<IdPart>
     ensures { result ≡ id_part flag b.now }
 {
     let mut id = [0u8; 20];
     if flag == 0 {
-        return IdPart {
-            ok: true,
-            used: 0,
-            id,
-        };
+        return Some(IdPart { used: 0, id });
     }
-    if b.len() < 21 {
-        return IdPart {
-            ok: false,
-            used: 0,
-            id,
-        };
+    if b.len() < 21 || b[0] != 0 {
+        return None;
     }
-    if b[0] != 0 {
-        return IdPart {
-            ok: false,
-            used: 0,
-            id,
-        };
-    }
-    laws::copy_at(&b[1..21], &mut id, 0);
-    IdPart {
-        ok: true,
-        used: 21,
-        id,
-    }
+    id.copy_from_slice(&b[1..21]);
+    Some(IdPart { used: 21, id })
 }
 
-fn no_video() -> VideoPart
-    ensures { result ≡ no_video }
-{
-    VideoPart {
-        ok: false,
-        used: 0,
-        video: Video::Absent,
-    }
-}
-
-fn one_field(b: &[u8]) -> VideoPart
-    requires { 2 ≤ length b.now }
-    ensures { result ≡ one_field b.now }
-{
-    if 240 < b[1] {
-        return no_video();
-    }
-    VideoPart {
-        ok: true,
-        used: 2,
-        video: Video::One(b[1]),
-    }
-}
-
-fn both_fields(rate: u8, b: &[u8]) -> VideoPart
-    ensures { result ≡ both_fields rate b.now }
-{
-    if !rates::two_fields(rate) {
-        return no_video();
-    }
-    if b.len() < 3 {
-        return no_video();
-    }
-    if 240 < b[1] {
-        return no_video();
-    }
-    if 240 < b[2] {
-        return no_video();
-    }
-    VideoPart {
-        ok: true,
-        used: 3,
-        video: Video::Two(b[1], b[2]),
-    }
-}
-
-pub(crate) fn read_video(flag: u8, rate: u8, b: &[u8]) -> VideoPart
+#[tactic(auto, unfolding(crate::specs::Parts::video_part, crate::specs::Parts::one_field, crate::specs::Parts::both_fields))]
+pub(crate) fn read_video(flag: u8, rate: u8, b: &[u8]) -> Option<VideoPart>
     ensures { result ≡ video_part flag rate b.now }
 {
     if flag == 0 {
-        return VideoPart {
-            ok: true,
+        return Some(VideoPart {
             used: 0,
             video: Video::Absent,
-        };
+        });
     }
-    if b.len() < 2 {
-        return no_video();
-    }
-    if b[0] == 0x09 {
-        return one_field(b);
-    }
-    if b[0] == 0x11 {
-        return both_fields(rate, b);
-    }
-    no_video()
-}
-
-fn no_print() -> PrintPart
-    ensures { result ≡ no_print }
-{
-    let none = blank_print();
-    PrintPart {
-        ok: false,
-        used: 0,
-        print: none,
+    match *b {
+        [0x09, value, ..] if value <= 240 => Some(VideoPart {
+            used: 2,
+            video: Video::One(value),
+        }),
+        [0x11, one, two, ..] if rates::two_fields(rate) && one <= 240 && two <= 240 => {
+            Some(VideoPart {
+                used: 3,
+                video: Video::Two(one, two),
+            })
+        }
+        _ => None,
     }
 }
 
 // One fingerprint at the start of b.
-fn read_print(rate: u8, b: &[u8]) -> PrintPart
+fn read_print(rate: u8, b: &[u8]) -> Option<PrintPart>
     ensures { result ≡ print_part rate b.now }
 {
-    let end = print_size(rate, b);
-    if end == 0 {
-        return no_print();
-    }
+    let used = print_size(rate, b)?;
     let mut bytes = [0u8; 5];
-    laws::copy_at(&b[2..end], &mut bytes, 0);
-    PrintPart {
-        ok: true,
-        used: end,
+    laws::copy_at(&b[2..used], &mut bytes, 0);
+    Some(PrintPart {
+        used,
         print: Print {
             id: b[0] / 8,
             mix: b[0] % 8,
             size: b[1] / 8,
             bytes,
         },
-    }
-}
-
-fn no_audio() -> AudioPart
-    ensures { result ≡ no_audio }
-{
-    let none = blank_print();
-    AudioPart {
-        ok: false,
-        used: 0,
-        count: 0,
-        prints: [none; 32],
-    }
+    })
 }
 
 // n fingerprints at the start of b.
-fn read_run(rate: u8, n: usize, b: &[u8]) -> AudioPart
+fn read_run(rate: u8, n: usize, b: &[u8]) -> Option<AudioPart>
     requires { n ≤ 32 }
     ensures { result ≡ audio_of n (run_of rate n b.now) }
 {
-    let none = blank_print();
-    let mut prints = [none; 32];
+    let mut prints = [blank_print(); 32];
     let mut at = 0;
-    let mut k = 0;
-    while k < n {
-        let part = read_print(rate, &b[at..]);
-        let ok = part.ok;
-        if !ok {
-            return no_audio();
-        }
-        let print = part.print;
-        let used = part.used;
-        prints[k] = print;
-        at += used;
-        k += 1;
+    for k in 0..n {
+        let part = read_print(rate, &b[at..])?;
+        prints[k] = part.print;
+        at += part.used;
     }
-    if !crate::same_count(prints, n) {
-        return no_audio();
+    if !crate::same_count(&prints[..n]) {
+        return None;
     }
-    AudioPart {
-        ok: true,
+    Some(AudioPart {
         used: at + 1,
         count: n as u8,
         prints,
-    }
+    })
 }
 
-fn read_audio(flag: u8, rate: u8, b: &[u8]) -> AudioPart
+#[tactic(auto, unfolding(crate::specs::Parts::audio_part))]
+fn read_audio(flag: u8, rate: u8, b: &[u8]) -> Option<AudioPart>
     ensures { result ≡ audio_part flag rate b.now }
 {
     if flag == 0 {
-        let none = blank_print();
-        return AudioPart {
-            ok: true,
+        return Some(AudioPart {
             used: 0,
             count: 0,
-            prints: [none; 32],
-        };
+            prints: [blank_print(); 32],
+        });
     }
-    if b.len() < 1 {
-        return no_audio();
+    match b {
+        [head, run @ ..] if head % 8 == 2 => read_run(rate, usize::from(head / 8) + 1, run),
+        _ => None,
     }
-    let head = b[0];
-    if head % 8 != 2 {
-        return no_audio();
-    }
-    read_run(rate, (head / 8) as usize + 1, &b[1..])
 }
 
-pub(crate) fn refused(n: u8) -> Reading
-    ensures { result ≡ refusal n }
+pub(crate) fn refused(number: u8) -> Reading
+    ensures { result ≡ refusal number }
 {
-    let none = empty_contents();
     Reading {
-        number: n,
-        contents: none,
+        number,
+        contents: empty_contents(),
     }
 }
 
@@ -250,28 +143,21 @@ pub(crate) fn refused(n: u8) -> Reading
 pub(crate) fn read_parts(counter: u8, flags: u8, b: &[u8]) -> Reading
     ensures { result ≡ parts_reading counter flags b.now }
 {
-    let i = read_id(flags / 4 % 2, b);
-    let id_ok = i.ok;
-    if !id_ok {
+    let Some(i) = read_id(flags / 4 % 2, b) else {
         return refused(25);
-    }
-    let p = i.used;
-    let v = read_video(flags / 2 % 2, flags / 16, &b[p..]);
-    let video_ok = v.ok;
-    if !video_ok {
+    };
+    let Some(v) = read_video(flags / 2 % 2, flags / 16, &b[i.used..]) else {
         return refused(26);
-    }
-    let q = p + v.used;
-    let a = read_audio(flags % 2, flags / 16, &b[q..]);
-    let audio_ok = a.ok;
-    if !audio_ok {
+    };
+    let used = i.used + v.used;
+    let Some(a) = read_audio(flags % 2, flags / 16, &b[used..]) else {
         return refused(27);
-    }
-    if q + a.used != b.len() {
+    };
+    if used + a.used != b.len() {
         return refused(28);
     }
+    // the toolchain takes an array out of a struct by a variable alone
     let id = i.id;
-    let video = v.video;
     let prints = a.prints;
     Reading {
         number: 0,
@@ -280,7 +166,7 @@ pub(crate) fn read_parts(counter: u8, flags: u8, b: &[u8]) -> Reading
             rate: flags / 16,
             hasid: flags / 4 % 2 == 1,
             id,
-            video,
+            video: v.video,
             count: a.count,
             prints,
         },

@@ -24,7 +24,7 @@ use Rattle.container.specs.declared.Contents.{Contents}
 use Rattle.container.specs.Contents.{all_carry, same_count}
 use Rattle.container.specs.Bytes.{id_bytes, video_bytes, print_bytes, run_bytes, audio_bytes, part_bytes, flag_byte, front_bytes, check_byte, encode}
 use Rattle.container.specs.Parts.{id_part, video_part, print_part, print_at, run_of, audio_of, audio_part}
-use Rattle.container.specs.Reading.{header_number, parts_joined, parts_reading, middle, reading}
+use Rattle.container.specs.Reading.{header_number, parts_reading, middle, reading}
 use Rattle.container.specs.Writing.{all_zero, id_readable, video_readable, print_readable, print_blank, prints_readable, readable, contents_number, write_number, write_done}
 use Rattle.container.proofs.Readable.{same_first, print_occurs, each_readable, passes}
 use Rattle.container_laws.specs.Typed.{Typed}
@@ -81,7 +81,7 @@ abbrev pairs_told : ℕ → Bool
 pairs_told rate = below (λ m. below (λ n. pair_told rate m n) 6) 6
 
 all_told : listed_below pairs_told ≡ true
-unfolding listed_below below rate_listed count_occurs cadence cadences frames from is_one_of mix_listed encode front_bytes part_bytes id_bytes video_bytes audio_bytes run_bytes print_bytes flag_byte check_byte sum reading header_number parts_reading parts_joined middle id_part video_part audio_part audio_of run_of print_part print_at over same_count all_carry write_done write_number contents_number done_with room_number readable id_readable video_readable prints_readable print_readable print_blank all_zero
+unfolding listed_below below rate_listed count_occurs cadence cadences frames from is_one_of mix_listed encode front_bytes part_bytes id_bytes video_bytes audio_bytes run_bytes print_bytes flag_byte check_byte sum reading header_number parts_reading middle id_part video_part audio_part audio_of run_of print_part print_at over same_count all_carry write_done write_number contents_number done_with room_number readable id_readable video_readable prints_readable print_readable print_blank all_zero
 all_told = refl
 
 pub each_pair : (rate m n : ℕ) → rate_listed rate ≡ true → m < 6 → n < 6 → PairTold rate m n

@@ -15,14 +15,16 @@ use Rattle.laws.proofs.Tests.{both, chosen}
 use Rattle.laws.specs.declared.Video.{Video}
 use Rattle.laws.specs.declared.Video.TheVariants.{Absent, One, Two}
 use Rattle.container.specs.declared.Print.{Print}
+use Rattle.std.specs.Prelude.{Option}
+use Rattle.std.specs.Option.{IfSome}
 use Rattle.container.specs.declared.IdPart.{IdPart}
 use Rattle.container.specs.declared.AudioPart.{AudioPart}
 use Rattle.container.specs.declared.Contents.{Contents}
 use Rattle.container.specs.Bytes.{id_bytes, video_bytes, print_bytes, run_bytes, audio_bytes, part_bytes, flag_byte, front_bytes, check_byte, encode}
 use Rattle.container.specs.Parts.{id_part, audio_part}
-use Rattle.container.specs.Reading.{id_in, video_in, middle, reading}
+use Rattle.container.specs.Reading.{id_in, audio_in, middle, reading}
 use Rattle.container.specs.Writing.{print_readable, prints_readable, readable}
-use Rattle.container.proofs.Parts.{audio_cases}
+use Rattle.container.proofs.Parts.{of_part, audio_cases, count_in}
 use Rattle.container.proofs.Runs.{run_length}
 use Rattle.container.proofs.Readable.{passes, print_fits, readable_fits}
 use Rattle.container.proofs.Bytes.{Shaped, encode_length, sized, at_most_254}
@@ -33,29 +35,33 @@ use Rattle.container_laws.proofs.There.{id_flag, video_flag_lem, audio_flag_lem}
 
 -- ---- what was read has arrays of the lengths that the types give, and is as long as its parts
 
-id_20 : (flag : ℕ) (b : List ℕ) → length (id_part flag b).id ≡ 20
+id_20 : (flag : ℕ) (b : List ℕ) → IfSome (id_part flag b) (λ p. length p.id ≡ 20)
 unfolding id_part
 id_20 flag b =
-    let P : IdPart → Type 0 = λ p. length p.id ≡ 20 in
+    let P : Option IdPart → Type 0 = λ o. IfSome o (λ p. length p.id ≡ 20) in
     chosen P (eqb flag 0) _ _ (λ _. refl)
     (λ _. chosen P (leb 21 (length b)) _ _
-    (λ l. chosen P (eqb (get_or b 0 0) 0) _ _ (λ _. length-take-le 20 (drop 1 b) (rw length-drop (omega (arith, leb-true 21 (length b) l)))) (λ _. refl))
-    (λ _. refl))
+    (λ l. chosen P (eqb (get_or b 0 0) 0) _ _ (λ _. length-take-le 20 (drop 1 b) (rw length-drop (omega (arith, leb-true 21 (length b) l)))) (λ _. tt))
+    (λ _. tt))
 
-prints_32 : (flag rate : ℕ) (b : List ℕ) → Bytes b → length (audio_part flag rate b).prints ≡ 32
+prints_32 : (flag rate : ℕ) (b : List ℕ) → Bytes b → IfSome (audio_part flag rate b) (λ p. length p.prints ≡ 32)
 prints_32 flag rate b s =
-    audio_cases (λ (p : AudioPart). length p.prints ≡ 32) flag rate b (λ _. refl) refl
-    (λ _. simp (length-append, length-drop, length-replicate, run_length) (omega (arith, s 0)))
+    let P : Option AudioPart → Type 0 = λ o. IfSome o (λ p. length p.prints ≡ 32) in
+    audio_cases P flag rate b (λ _. refl) tt
+    (λ a. let l = run_length rate (count_in b) (drop 1 b) a.run a.run_is in simp (length-append, length-drop, length-replicate, l) (omega (arith, s 0)))
 
 pub reading_shaped : (s : List ℕ) → Bytes s → (reading s).number ≡ 0 → Shaped (reading s).contents
 reading_shaped s small e =
     let a = accepted_is s e in
     let flags = get_or s 3 0 in
     let b = middle s in
-    let past = (id_in flags b).used + (video_in flags b).used in
+    let r = a.parts in
+    let past = r.id.used + r.video.used in
     rw a.says (record {
-      id = id_20 (flags / 4 % 2) b;
-      prints = prints_32 (flags % 2) (flags / 16) (drop past b) (bytes_drop past b (middle_bytes s small));
+      id = of_part (λ (p : IdPart). length p.id ≡ 20) (id_in flags b) r.id r.id_is (id_20 (flags / 4 % 2) b);
+      prints =
+          of_part (λ (p : AudioPart). length p.prints ≡ 32) (audio_in flags past b) r.audio r.audio_is
+          (prints_32 (flags % 2) (flags / 16) (drop past b) (bytes_drop past b (middle_bytes s small)));
     })
 
 pub accepted_sized : (s : List ℕ) → Bytes s → (reading s).number ≡ 0 → (5 ≤ length s) × (length s ≤ 254)

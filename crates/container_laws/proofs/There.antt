@@ -11,6 +11,7 @@ use lib.Dec.{leb, eqb}
 use borrow.Author.Tests.{eqb-true, le-leb, eq-eqb}
 use Rattle.laws.specs.Calls.{over}
 use Rattle.laws.specs.Sums.{sum}
+use Rattle.std.specs.Prelude.{Some}
 use Rattle.laws.proofs.Tests.{both}
 use Rattle.laws.proofs.Sums.{sum_append}
 use Rattle.rates.specs.Mixes.{mix_listed}
@@ -66,7 +67,7 @@ well rate p t e =
     let q₃ = both (count_occurs rate p.size) _ q₂.1 in
     record { fits = print_fits rate p e; listed = q₂.0; occurs = q₃.0; room = t.long; zeros = drop_zeros p.size 5 p.bytes t.long q₃.1 }
 
-print_there : (rate : ℕ) (p : Print) (rest : List ℕ) → Well rate p → print_part rate (print_bytes p ++ rest) ≡ record { ok = true; used = p.size + 2; print = p }
+print_there : (rate : ℕ) (p : Print) (rest : List ℕ) → Well rate p → print_part rate (print_bytes p ++ rest) ≡ Some (record { used = p.size + 2; print = p })
 unfolding print_bytes print_at over
 print_there rate p rest w =
     let f = w.fits in
@@ -96,7 +97,7 @@ data AllWell (rate : ℕ) : List Print → Type 0 where
   more : {p : Print} {ps : List Print} → Well rate p → AllWell rate ps → AllWell rate (p ∷ ps)
 
 run_there : (rate : ℕ) (ps : List Print) (rest : List ℕ) → AllWell rate ps
-    → run_of rate (length ps) (run_bytes ps ++ rest) ≡ record { ok = true; used = length (run_bytes ps); list = ps }
+    → run_of rate (length ps) (run_bytes ps ++ rest) ≡ Some (record { used = length (run_bytes ps); list = ps })
 unfolding run_of run_bytes
 run_there rate [] rest w = refl
 run_there rate (p ∷ ps) rest (more w ws) =
@@ -144,7 +145,7 @@ rest_blank rate (suc n) (suc m) (p ∷ ps) t l e = rest_blank rate n m ps t.1 (o
 -- ---- each part
 
 id_there : (present : Bool) (id rest : List ℕ) → length id ≡ 20 → id_readable present id ≡ true
-    → id_part (cond present 1 0) (id_bytes present id ++ rest) ≡ record { ok = true; used = length (id_bytes present id); id = id }
+    → id_part (cond present 1 0) (id_bytes present id ++ rest) ≡ Some (record { used = length (id_bytes present id); id = id })
 unfolding id_part id_bytes id_readable
 id_there false id rest h e = rw (drop_zeros 0 20 id h e)
 id_there true id rest h e =
@@ -152,7 +153,7 @@ id_there true id rest h e =
     rw (le-leb 21 (suc (length (id ++ rest))) (omega arith), take_at id rest 20 h, h)
 
 video_there : (rate : ℕ) (v : Video) (rest : List ℕ) → video_readable rate v ≡ true
-    → video_part (video_flag v) rate (video_bytes v ++ rest) ≡ record { ok = true; used = length (video_bytes v); video = v }
+    → video_part (video_flag v) rate (video_bytes v ++ rest) ≡ Some (record { used = length (video_bytes v); video = v })
 unfolding video_part one_field both_fields video_bytes video_readable
 video_there rate Absent rest e = refl
 video_there rate (One a) rest e = rw (le-leb 2 (suc (suc (length rest))) (omega arith), e)
@@ -162,7 +163,7 @@ video_there rate (Two a b) rest e =
     rw (le-leb 2 (suc (suc (suc (length rest)))) (omega arith), q₂.1, le-leb 3 (suc (suc (suc (length rest)))) (omega arith), q₁.0, q₂.0)
 
 audio_there : (rate n : ℕ) (ps : List Print) → n ≤ 32 → length ps ≡ 32 → AllWell rate (take n ps) → same_count (take n ps) ≡ true → drop n ps ≡ drop n (replicate 32 blank_print)
-    → audio_part (audio_flag n) rate (audio_bytes n ps) ≡ record { ok = true; used = length (audio_bytes n ps); count = n; prints = ps }
+    → audio_part (audio_flag n) rate (audio_bytes n ps) ≡ Some (record { used = length (audio_bytes n ps); count = n; prints = ps })
 unfolding audio_part audio_of audio_bytes
 audio_there rate zero ps m l w c z = rw z
 audio_there rate (suc n) ps m l w c z =
@@ -223,18 +224,18 @@ module _ (c : Contents) (t : Typed c) (p : Passes c) where
       let I : List ℕ = id_bytes c.hasid c.id in
       let W : List ℕ = video_bytes c.video in
       let A : List ℕ = audio_bytes c.count c.prints in
-      let gi : IdPart = record { ok = true; used = length I; id = c.id } in
-      let gv : VideoPart = record { ok = true; used = length W; video = c.video } in
-      let ga : AudioPart = record { ok = true; used = length A; count = c.count; prints = c.prints } in
-      let pi : id_part (flags / 4 % 2) (I ++ W ++ A) ≡ gi = rw (f.id, append_assoc I W A) (id_there c.hasid c.id (W ++ A) t.id_long p.id) in
-      let pv : video_part (flags / 2 % 2) (flags / 16) (drop (length I) (I ++ W ++ A)) ≡ gv =
+      let gi : IdPart = record { used = length I; id = c.id } in
+      let gv : VideoPart = record { used = length W; video = c.video } in
+      let ga : AudioPart = record { used = length A; count = c.count; prints = c.prints } in
+      let pi : id_part (flags / 4 % 2) (I ++ W ++ A) ≡ Some gi = rw (f.id, append_assoc I W A) (id_there c.hasid c.id (W ++ A) t.id_long p.id) in
+      let pv : video_part (flags / 2 % 2) (flags / 16) (drop (length I) (I ++ W ++ A)) ≡ Some gv =
       rw (f.video, f.rate, append_assoc I W A, drop_at I (W ++ A) (length I) refl) (video_there c.rate c.video A p.video) in
-      let pa : audio_part (flags % 2) (flags / 16) (drop (length I + length W) (I ++ W ++ A)) ≡ ga =
+      let pa : audio_part (flags % 2) (flags / 16) (drop (length I + length W) (I ++ W ++ A)) ≡ Some ga =
       rw (f.audio, f.rate, drop_at (I ++ W) A (length I + length W) (length-append I W))
       (audio_there c.rate c.count c.prints p.many t.many (each_well c.rate c.count c.prints t.prints p.prints) p.counts
       (rest_blank c.rate c.count 32 c.prints t.prints t.many p.prints)) in
       let l : length I + length W + length A ≡ length (I ++ W ++ A) = sym (length-append (I ++ W) A ∙ ap (λ (k : ℕ). k + length A) (length-append I W)) in
-      parts_0 c.counter flags (I ++ W ++ A) gi (sym pi) refl gv (sym pv) refl ga (sym pa) refl l ∙ rw (f.rate, f.id, id_flag_is)
+      parts_0 c.counter flags (I ++ W ++ A) gi pi gv pv ga pa l ∙ rw (f.rate, f.id, id_flag_is)
 
 check_0 : (front : List ℕ) → sum (front ++ (check_byte (sum front) ∷ [])) % 256 ≡ 0
 unfolding sum check_byte

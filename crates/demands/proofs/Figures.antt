@@ -23,7 +23,7 @@ use Rattle.container.specs.declared.Print.{Print}
 use Rattle.container.specs.declared.Reading.{Reading}
 use Rattle.container.specs.Contents.{blank_print, all_carry, same_count}
 use Rattle.container.specs.Parts.{id_part, one_field, video_part, print_part, print_at, run_of, audio_of, audio_part}
-use Rattle.container.specs.Reading.{header_number, parts_joined, parts_reading, middle, reading}
+use Rattle.container.specs.Reading.{header_number, parts_reading, middle, reading}
 use Rattle.packet.specs.Words.{parity, with_bit9, word_of, sum9, check_word}
 use Rattle.packet.specs.Writing.{head_words, front_words, packet_words}
 
@@ -89,7 +89,7 @@ unchanged : (x y : ℕ) → x < y + 32 → y < x + 32 → Unchanged x y
 unchanged x y h k = (brighter_is x y ∙ lt-leb (y + 32) x h, darker_is x y ∙ lt-leb (x + 32) y k)
 
 pub figures : Figures
-unfolding fingerprint_of pseudo_absolute mixed quotient towards_zero floor weighted weights divisor instant_samples signed_at signed filtered filter_next reading header_number parts_reading parts_joined middle id_part video_part one_field audio_part audio_of run_of print_part print_at count_occurs cadence cadences frames from is_one_of same_count all_carry over sum rate_listed mix_listed packet_words front_words head_words word_of with_bit9 parity sum9 check_word
+unfolding fingerprint_of pseudo_absolute mixed quotient towards_zero floor weighted weights divisor instant_samples signed_at signed filtered filter_next reading header_number parts_reading middle id_part video_part one_field audio_part audio_of run_of print_part print_at count_occurs cadence cadences frames from is_one_of same_count all_carry over sum rate_listed mix_listed packet_words front_words head_words word_of with_bit9 parity sum9 check_word
 figures = record {
   unchanged_31 = λ x. (unchanged x (x + 31) (omega arith) (omega arith), unchanged (x + 31) x (omega arith) (omega arith));
   changed_32 = λ x. (darker_is x (x + 32) ∙ le-leb (x + 32) (x + 32) (omega arith), brighter_is (x + 32) x ∙ le-leb (x + 32) (x + 32) (omega arith));

@@ -24,7 +24,8 @@ use Rattle.container.specs.declared.Contents.{Contents}
 use Rattle.container.specs.declared.Reading.{Reading}
 use Rattle.container.specs.Contents.{empty_contents}
 use Rattle.container.specs.Bytes.{encode}
-use Rattle.container.specs.Reading.{header_number, parts_joined, id_in, video_in, audio_in, parts_reading, middle, reading}
+use Rattle.container.proofs.Parts.{part_cases}
+use Rattle.container.specs.Reading.{header_number, refusal, id_in, video_in, audio_in, parts_reading, middle, reading}
 use Rattle.container.specs.Writing.{write_number, write_done, write_out}
 use Rattle.session.specs.declared.Session.{Session}
 use Rattle.session.specs.declared.Begun.{Begun}
@@ -151,18 +152,15 @@ setup_refused u = chosen (λ (x : Begun). (x.number ≡ 0 → ⊥) → (x.number
     (λ _ h. (setup_1 u.format u.rate u.rule u.mixes h, refl))
 
 pub reading_refused : (s : List ℕ) → ((reading s).number ≡ 0 → ⊥) → (reading s).contents ≡ empty_contents
-unfolding reading parts_reading parts_joined
+unfolding reading parts_reading
 reading_refused s =
     let flags : ℕ = get_or s 3 0 in
     let b : List ℕ = middle s in
     chosen P (eqb (header_number s) 0) _ _
-    (λ _. chosen P (id_in flags b).ok _ _
-    (λ _. chosen P (video_in flags b).ok _ _
-    (λ _. chosen P (audio_in flags b).ok _ _
-    (λ _. chosen P (eqb ((id_in flags b).used + (video_in flags b).used + (audio_in flags b).used) (length b)) _ _ (λ _ h. absurd (h refl)) (λ _ _. refl))
-    (λ _ _. refl))
-    (λ _ _. refl))
-    (λ _ _. refl))
+    (λ _. part_cases P (id_in flags b) (refusal 25) _ (λ _. refl)
+    (λ i _. part_cases P (video_in flags i.used b) (refusal 26) _ (λ _. refl)
+    (λ v _. part_cases P (audio_in flags (i.used + v.used) b) (refusal 27) _ (λ _. refl)
+    (λ a _. chosen P (eqb (i.used + v.used + a.used) (length b)) _ _ (λ _ h. absurd (h refl)) (λ _ _. refl)))))
     (λ _ _. refl)
   where
     P : Reading → Type 0

@@ -9,11 +9,12 @@ use lib.Dec.{T, ltb}
 use lib.Ieee.{Float, nan, inf, fin, binary32, is_nan, of_bits, nan_bits}
 use lib.Ieee.Bits.{nan_bits_is, nan_bits_above}
 use borrow.Author.Tests.{lt-ltb, le-ltb, ltb-false, eqb-true, ne_eqb}
+use Rattle.std.specs.declared.result.Result.{Result}
+use Rattle.std.specs.declared.result.Result.TheVariants.{Ok, Err}
 use Rattle.rates.specs.Mixes.{mix_listed}
 use Rattle.floats.specs.declared.Instant.{Instant}
+use Rattle.answers.specs.declared.Cause.{Cause}
 use Rattle.answers.specs.declared.Cause.TheVariants.{TooShort}
-use Rattle.feed.specs.declared.Brought.{Brought}
-use Rattle.feed.specs.declared.Brought.TheVariants as brought
 use Rattle.feed.specs.Values.{instant_in}
 
 -- ---- without the sign, a NaN's bits lie above an infinity's
@@ -37,10 +38,10 @@ pub last_kind : (kind : ℕ) → mix_listed kind ≡ true → (kind ≡ 1 → �
 unfolding mix_listed
 last_kind kind h m n = eqb-true kind 5 (sym (rw (ne_eqb kind 1 m, ne_eqb kind 2 n)) ∙ h)
 
-long_enough : (t : Bool) (rest : Brought) (i : Instant) → cond t (brought.Not TooShort) rest ≡ brought.Of i → t ≡ false
+long_enough : (t : Bool) (rest : Result Instant Cause) (i : Instant) → cond t (Err TooShort) rest ≡ Ok i → t ≡ false
 long_enough true rest i e = absurd (let z : ◌≡◌ {A = ℕ} 0 1 = cc in omega arith)
 long_enough false rest i e = refl
 
-pub brought_some : (p : List ℕ) (i : Instant) → instant_in p ≡ brought.Of i → 0 < length p
+pub brought_some : (p : List ℕ) (i : Instant) → instant_in p ≡ Ok i → 0 < length p
 unfolding instant_in
 brought_some p i e = let h = ltb-false (length p) 2 (long_enough (ltb (length p) 2) _ i e) in omega arith

@@ -6,6 +6,9 @@ use mathlib.Core.Bool.{Bool, true, false, cond}
 use native.Mathlib.Omega.{arith}
 use lib.ListN.{length, take, drop}
 use lib.Dec.{leb, ltb, eqb}
+use Rattle.std.specs.Prelude.{Option, Some, None}
+use Rattle.std.specs.declared.result.Result.{Result}
+use Rattle.std.specs.declared.result.Result.TheVariants.{Ok, Err}
 use Rattle.laws.specs.Calls.{done_with}
 use Rattle.laws.proofs.Tests.{chosen}
 use Rattle.sampling.specs.Samples.{sample_number, pixels, sample_done, sample_out}
@@ -20,6 +23,7 @@ use Rattle.transport.specs.Writing as stream
 use Rattle.transport.specs.Reading as unstream
 use Rattle.mending.specs.Mending.{mended, recording_number, mend_number, mend_done, mend_out}
 use Rattle.container.specs.Writing.{write_done, write_out}
+use Rattle.floats.specs.declared.Instant as floats
 use Rattle.session.specs.declared.Session.{Session}
 use Rattle.session.specs.declared.Packed.{Packed}
 use Rattle.session.specs.Session.{instant_of}
@@ -30,20 +34,17 @@ use Rattle.report.proofs.Sizes.{reported_size}
 use Rattle.records.specs.declared.Record.{Record}
 use Rattle.records.specs.declared.Record.TheVariants.{Whole, Cut, End}
 use Rattle.records.specs.Records.{byte_at, record_at}
+use Rattle.answers.specs.declared.Cause.{Cause}
 use Rattle.answers.specs.declared.Cause.TheVariants.{UnknownTag, CutShort}
 use Rattle.answers.specs.declared.Hand.TheVariants.{Pack, Sample, Rewrite, Wrap, Unwrap, Write, Stream, Unstream, Mend}
-use Rattle.answers.specs.declared.Room.{Room}
-use Rattle.answers.specs.declared.Room.TheVariants.{Of, Not}
-use Rattle.feed.specs.declared.Brought.{Brought}
-use Rattle.feed.specs.declared.Brought.TheVariants as brought
 use Rattle.answers.specs.declared.Answer.TheVariants.{Instant, Reported, Finished}
-use Rattle.feed.specs.declared.Answered.{Answered}
 use Rattle.answers.specs.Lines.{untouched, fresh, Quiet}
 use Rattle.answers.specs.Rooms.{room_at}
-use Rattle.feed.specs.Alone.{Reply, in_work, sample_lent, sample_in, sample_fed, read_fed, rewrite_done, rewrite_out, write_lent, carried_fed, lent_fed, room_in, room_fed, alone_fed}
+use Rattle.feed.specs.Alone.{Reply, in_work, sample_lent, sample_in, sample_fed, read_fed, rewrite_done, rewrite_out, write_with, write_lent, carried_fed, lent_fed, room_in, room_fed, alone_fed}
 use Rattle.feed.specs.Values.{instant_in}
-use Rattle.feed.specs.Calls.{Step, begun, lined, sounded, instanted, done_of, packed, setup_fed, ruled_fed, line_fed, sound_fed, pack_in, pack_fed, restart_fed, instant_with, instant_fed, session_fed}
-use Rattle.feed.specs.Feed.{leaves, fed, record_fed, front}
+use Rattle.feed.specs.Calls.{Answered, Step, begun, lined, sounded, instanted, done_of, packed, setup_fed, ruled_fed, line_fed, sound_fed, pack_in, pack_fed, restart_fed, instant_with, instant_fed, session_fed}
+use Rattle.feed.specs.Feed.{leaves, fed, front}
+use Rattle.answers.specs.Steps.{record_fed}
 use Rattle.answers.proofs.Watch.{untouched_size}
 use Rattle.answers.proofs.Rooms.{room_most}
 use Rattle.answers.proofs.Held.{Kept, none_kept, call_kept, InRoom, Held, held_work, handed_in, none_held, bad_in, bad_held}
@@ -124,13 +125,18 @@ carried_in tag rest room =
     (λ _. chosen P (eqb tag 0x28) _ _ (λ _. handed_in Mend _ room _ (mend_kept rest lent))
     (λ _. bad_in _ room)))))
 
+write_in : (rest : List ℕ) (room : ℕ) (o : Option Contents) → RoomReply room (write_with rest (untouched room) o)
+unfolding write_with
+write_in rest room (Some contents) = handed_in Write _ room _ (write_kept contents (untouched room))
+write_in rest room None = bad_in _ room
+
 pub lent_in : (tag : ℕ) (rest : List ℕ) (room : ℕ) → RoomReply room (lent_fed tag rest (untouched room))
 unfolding lent_fed write_lent
 lent_in tag rest room =
     let P : Reply → Type 0 = RoomReply room in
     let lent : List ℕ = untouched room in
     chosen P (eqb tag 0x22) _ _ (λ _. handed_in Rewrite _ room _ (rewrite_kept rest lent))
-    (λ _. chosen P (eqb tag 0x25) _ _ (λ _. chosen P (unflat rest).ok _ _ (λ _. handed_in Write _ room _ (write_kept (unflat rest).contents lent)) (λ _. bad_in _ room))
+    (λ _. chosen P (eqb tag 0x25) _ _ (λ _. write_in rest room (unflat rest))
     (λ _. carried_in tag rest room))
 
 -- ---- every record
@@ -145,15 +151,15 @@ in_held : (room : ℕ) (r : Reply) → room ≤ 4096 → RoomReply room r → He
 unfolding in_work
 in_held room r h q = held_work r.answer r.left (omega (arith, q.0)) q.1
 
-sample_held : (p : List ℕ) (r : Room) → room_at p 1 ≡ r → HeldReply (sample_in p r)
+sample_held : (p : List ℕ) (r : Result ℕ Cause) → room_at p 1 ≡ r → HeldReply (sample_in p r)
 unfolding sample_in sample_lent
-sample_held p (Of room) e = in_held room _ (room_most p 1 room e) (handed_in Sample _ room _ (sample_kept (byte_at p 0) (drop 3 p) (untouched room)))
-sample_held p (Not cause) e = bad_held cause
+sample_held p (Ok room) e = in_held room _ (room_most p 1 room e) (handed_in Sample _ room _ (sample_kept (byte_at p 0) (drop 3 p) (untouched room)))
+sample_held p (Err cause) e = bad_held cause
 
-room_held : (tag : ℕ) (p : List ℕ) (r : Room) → room_at p 0 ≡ r → HeldReply (room_in tag p r)
+room_held : (tag : ℕ) (p : List ℕ) (r : Result ℕ Cause) → room_at p 0 ≡ r → HeldReply (room_in tag p r)
 unfolding room_in
-room_held tag p (Of room) e = in_held room _ (room_most p 0 room e) (lent_in tag (drop 2 p) room)
-room_held tag p (Not cause) e = bad_held cause
+room_held tag p (Ok room) e = in_held room _ (room_most p 0 room e) (lent_in tag (drop 2 p) room)
+room_held tag p (Err cause) e = bad_held cause
 
 alone_held : (tag : ℕ) (p : List ℕ) → HeldReply (alone_fed tag p)
 unfolding alone_fed sample_fed read_fed room_fed Quiet
@@ -163,23 +169,23 @@ alone_held tag p =
     (λ _. chosen HeldReply (ltb 0x28 tag) _ _ (λ _. bad_held (UnknownTag tag))
     (λ _. room_held tag p (room_at p 0) refl)))
 
-pack_held : (s : Session) (p : List ℕ) (r : Room) → room_at p 0 ≡ r → HeldStep (pack_in s p r)
+pack_held : (s : Session) (p : List ℕ) (r : Result ℕ Cause) → room_at p 0 ≡ r → HeldStep (pack_in s p r)
 unfolding pack_in packed
-pack_held s p (Of room) e =
+pack_held s p (Ok room) e =
     let k = subst (λ (n : ℕ). Kept (untouched room) (done_of (pack_of s (drop 2 p) n)).written (pack_out s (drop 2 p) (untouched room))) (untouched_size room) (pack_kept s (drop 2 p) (untouched room)) in
     let q = handed_in Pack (done_of (pack_of s (drop 2 p) room)) room _ k in
     held_work _ _ (omega (arith, q.0, room_most p 0 room e)) q.1
-pack_held s p (Not cause) e = bad_held cause
+pack_held s p (Err cause) e = bad_held cause
 
 -- a call on the session that is lent no room, or its refusal
 plain_held : (t : Bool) (a b : Answered) → Quiet a.answer fresh → Quiet b.answer fresh → Held (cond t a b).answer fresh
 plain_held true a b q r = none_held _ q
 plain_held false a b q r = none_held _ r
 
-instant_held : (s : Session) (k : ℕ) (b : Brought) → Held (instant_with s k b).answer fresh
+instant_held : (s : Session) (k : ℕ) (b : Result floats.Instant Cause) → Held (instant_with s k b).answer fresh
 unfolding instant_with instanted Quiet
-instant_held s k (brought.Of i) = none_held (Instant (instant_of s k i).number) (omega arith)
-instant_held s k (brought.Not cause) = bad_held cause
+instant_held s k (Ok i) = none_held (Instant (instant_of s k i).number) (omega arith)
+instant_held s k (Err cause) = bad_held cause
 
 session_held : (s : Session) (tag : ℕ) (p : List ℕ) → HeldStep (session_fed s tag p)
 unfolding session_fed setup_fed ruled_fed begun line_fed lined sound_fed sounded pack_fed restart_fed instant_fed Quiet
@@ -202,7 +208,7 @@ pub front_held : (s : Session) (bytes : List ℕ) → HeldStep (front s bytes)
 unfolding front record_fed Quiet
 front_held s bytes = go (record_at bytes 0)
   where
-    go : (r : Record) → HeldStep (record_fed s bytes r)
+    go : (r : Record) → HeldStep (record_fed fed s bytes r)
     go (Whole tag start end) = fed_held s tag (take (end - start) (drop start bytes))
     go Cut = bad_held CutShort
     go End = none_held Finished (omega arith)

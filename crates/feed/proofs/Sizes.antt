@@ -8,7 +8,8 @@ use lib.Seq.{sets}
 use Rattle.session.specs.declared.Session.{Session}
 use Rattle.answers.proofs.Sizes.{answer_fits}
 use Rattle.answers.proofs.Sizes as answers
-use Rattle.feed.specs.Feed.{step_line, line_next}
+use Rattle.feed.specs.Feed.{line_next}
+use Rattle.answers.specs.Steps.{step_line}
 use Rattle.feed.proofs.Kept.{front_held}
 
 -- no line is longer

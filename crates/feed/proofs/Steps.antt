@@ -6,6 +6,7 @@ use mathlib.Core.Bool.{cond}
 use lib.ListN.{length, drop}
 use lib.Dec.{leb}
 use borrow.Author.Tests.{le-leb, lt-leb}
+use Rattle.std.specs.declared.result.Result.TheVariants.{Ok, Err}
 use Rattle.laws.specs.declared.Done.{Done}
 use Rattle.laws.specs.Calls.{over}
 use Rattle.records.specs.Records.{byte_at}
@@ -15,14 +16,13 @@ use Rattle.session.specs.declared.Packed.{Packed}
 use Rattle.session.specs.Packing.{pack_of, pack_out}
 use Rattle.answers.specs.declared.Cause.{Cause}
 use Rattle.answers.specs.declared.Hand.TheVariants.{Sample}
-use Rattle.answers.specs.declared.Room.TheVariants.{Of, Not}
 use Rattle.answers.specs.declared.Answer.{Answer}
 use Rattle.answers.specs.declared.Answer.TheVariants.{Handed, Bad}
-use Rattle.feed.specs.declared.Answered.{Answered}
 use Rattle.answers.specs.Lines.{untouched, fresh}
 use Rattle.answers.specs.Rooms.{room_at}
 use Rattle.feed.specs.Alone.{Reply, reply, in_work, sample_lent, sample_in, sample_fed, lent_fed, room_in, room_fed}
-use Rattle.feed.specs.Calls.{Step, step, bad_fed, packed, pack_in, pack_fed}
+use Rattle.feed.specs.Calls.{Answered, Step, packed, pack_in, pack_fed}
+use Rattle.answers.specs.Steps.{step, bad_fed}
 use Rattle.answers.proofs.Watch.{untouched_size}
 use Rattle.answers.proofs.Rooms.{work_after}
 use Rattle.feed.proofs.Kept.{sample_kept, pack_kept, lent_in}
@@ -49,20 +49,20 @@ when_short n size t u h = rw (lt-leb n size h)
 -- ---- a record with a room: it has none, or the call was lent it
 
 module _ (p : List ℕ) (cause : Cause) where
-  pub sample_none : room_at p 1 ≡ Not cause → reply (Bad cause) fresh ≡ sample_fed p
+  pub sample_none : room_at p 1 ≡ Err cause → reply (Bad cause) fresh ≡ sample_fed p
   unfolding sample_fed sample_in
   sample_none e = sym (ap (sample_in p) e)
 
-  pub room_none : (tag : ℕ) → room_at p 0 ≡ Not cause → reply (Bad cause) fresh ≡ room_fed tag p
+  pub room_none : (tag : ℕ) → room_at p 0 ≡ Err cause → reply (Bad cause) fresh ≡ room_fed tag p
   unfolding room_fed room_in
   room_none tag e = sym (ap (room_in tag p) e)
 
-  pub pack_none : (s : Session) → room_at p 0 ≡ Not cause → step (bad_fed s cause) fresh ≡ pack_fed s p
+  pub pack_none : (s : Session) → room_at p 0 ≡ Err cause → step (bad_fed s cause) fresh ≡ pack_fed s p
   unfolding pack_fed pack_in
   pack_none s e = sym (ap (pack_in s p) e)
 
 module _ (p rest lent left work : List ℕ) (room : ℕ) (l : lent ≡ untouched room) (w : work ≡ fresh) where
-  pub samples : (d : Done) → room_at p 1 ≡ Of room → rest ≡ drop 3 p → d ≡ sample_done (byte_at p 0) rest lent → left ≡ sample_out (byte_at p 0) rest lent
+  pub samples : (d : Done) → room_at p 1 ≡ Ok room → rest ≡ drop 3 p → d ≡ sample_done (byte_at p 0) rest lent → left ≡ sample_out (byte_at p 0) rest lent
       → Gives (sample_fed p) (Handed Sample d) (left ++ drop room work)
   unfolding sample_fed sample_in sample_lent in_work
   samples d e f g h =
@@ -73,7 +73,7 @@ module _ (p rest lent left work : List ℕ) (room : ℕ) (l : lent ≡ untouched
         work_after left work room n w ∙ ap (λ (x : List ℕ). over x fresh) k,
       )
 
-  pub lends : (tag : ℕ) (a : Answer) → room_at p 0 ≡ Of room → rest ≡ drop 2 p → Gives (lent_fed tag rest lent) a left → Gives (room_fed tag p) a (left ++ drop room work)
+  pub lends : (tag : ℕ) (a : Answer) → room_at p 0 ≡ Ok room → rest ≡ drop 2 p → Gives (lent_fed tag rest lent) a left → Gives (room_fed tag p) a (left ++ drop room work)
   unfolding room_fed room_in in_work
   lends tag a e f g =
       let t : lent_fed tag rest lent ≡ lent_fed tag (drop 2 p) (untouched room) = ap (λ (x : List ℕ). lent_fed tag x lent) f ∙ ap (lent_fed tag (drop 2 p)) l in
@@ -81,7 +81,7 @@ module _ (p rest lent left work : List ℕ) (room : ℕ) (l : lent ≡ untouched
       let n : length left ≡ room = ap length h.1 ∙ (lent_in tag (drop 2 p) room).0 in
       rw e (h.0, work_after left work room n w ∙ ap (λ (x : List ℕ). over x fresh) h.1)
 
-  pub packs : (s : Session) (r : Packed) → room_at p 0 ≡ Of room → rest ≡ drop 2 p → r ≡ pack_of s rest (length lent) → left ≡ pack_out s rest lent
+  pub packs : (s : Session) (r : Packed) → room_at p 0 ≡ Ok room → rest ≡ drop 2 p → r ≡ pack_of s rest (length lent) → left ≡ pack_out s rest lent
       → Does (pack_fed s p) (packed r) (left ++ drop room work)
   unfolding pack_fed pack_in
   packs s r e f g h =

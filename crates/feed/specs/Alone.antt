@@ -1,9 +1,10 @@
 -- The calls that touch no session: tags 20h to 28h (FEED's table).
-use Rattle.std.specs.Prelude.{ℕ, List, cond, length, drop, ltb, eqb}
+use Rattle.std.specs.Prelude.{ℕ, List, Option, Some, None, cond, length, drop, ltb, eqb, Result, Ok, Err}
 use Rattle.laws.specs.declared.Done.{Done}
 use Rattle.laws.specs.Calls.{over}
 use Rattle.records.specs.Records.{byte_at}
 use Rattle.sampling.specs.Samples.{sample_done, sample_out}
+use Rattle.container.specs.declared.Contents.{Contents}
 use Rattle.container.specs.Reading.{reading}
 use Rattle.container.specs.Writing as container
 use Rattle.packet.specs.Writing as packet
@@ -16,8 +17,6 @@ use Rattle.report.specs.Report.{reported}
 use Rattle.answers.specs.declared.Cause.{Cause}
 use Rattle.answers.specs.declared.Cause.TheVariants.{UnknownTag, TooShort, TooLong, IdPresent, VideoValues, UnusedPlace}
 use Rattle.answers.specs.declared.Hand.TheVariants.{Sample, Rewrite, Wrap, Unwrap, Write, Stream, Unstream, Mend}
-use Rattle.answers.specs.declared.Room.{Room}
-use Rattle.answers.specs.declared.Room.TheVariants.{Of, Not}
 use Rattle.answers.specs.declared.Answer.{Answer}
 use Rattle.answers.specs.declared.Answer.TheVariants.{Handed, Reported, Bad}
 use Rattle.answers.specs.Lines.{untouched, fresh}
@@ -39,9 +38,9 @@ in_work r = reply r.answer (over r.left fresh)
 unfoldable pub sample_lent : ℕ → List ℕ → List ℕ → Reply
 sample_lent format line lent = reply (Handed Sample (sample_done format line lent)) (sample_out format line lent)
 
-unfoldable pub sample_in : List ℕ → Room → Reply
-sample_in p (Of room) = in_work (sample_lent (byte_at p 0) (drop 3 p) (untouched room))
-sample_in p (Not cause) = reply (Bad cause) fresh
+unfoldable pub sample_in : List ℕ → Result ℕ Cause → Reply
+sample_in p (Ok room) = in_work (sample_lent (byte_at p 0) (drop 3 p) (untouched room))
+sample_in p (Err cause) = reply (Bad cause) fresh
 
 unfoldable pub sample_fed : List ℕ → Reply
 sample_fed p = sample_in p (room_at p 1)
@@ -67,11 +66,12 @@ flat_cause bytes =
     (cond (ltb 2 (byte_at bytes 23)) VideoValues
     UnusedPlace)))
 
+unfoldable pub write_with : List ℕ → List ℕ → Option Contents → Reply
+write_with bytes lent (Some contents) = reply (Handed Write (container.write_done contents (length lent))) (container.write_out contents lent)
+write_with bytes lent None = reply (Bad (flat_cause bytes)) lent
+
 unfoldable pub write_lent : List ℕ → List ℕ → Reply
-write_lent bytes lent =
-    cond (unflat bytes).ok
-    (reply (Handed Write (container.write_done (unflat bytes).contents (length lent))) (container.write_out (unflat bytes).contents lent))
-    (reply (Bad (flat_cause bytes)) lent)
+write_lent bytes lent = write_with bytes lent (unflat bytes)
 
 -- a container carried in a packet or a recording. 23h: "Write packet"; 24h: "Read packet"; 26h: "Write transport packet"; 27h: "Read transport packet"; 28h: "Mend"
 unfoldable pub carried_fed : ℕ → List ℕ → List ℕ → Reply
@@ -91,9 +91,9 @@ lent_fed tag rest lent =
     (carried_fed tag rest lent))
 
 -- "u16 room", then what the call is given
-unfoldable pub room_in : ℕ → List ℕ → Room → Reply
-room_in tag p (Of room) = in_work (lent_fed tag (drop 2 p) (untouched room))
-room_in tag p (Not cause) = reply (Bad cause) fresh
+unfoldable pub room_in : ℕ → List ℕ → Result ℕ Cause → Reply
+room_in tag p (Ok room) = in_work (lent_fed tag (drop 2 p) (untouched room))
+room_in tag p (Err cause) = reply (Bad cause) fresh
 
 unfoldable pub room_fed : ℕ → List ℕ → Reply
 room_fed tag p = room_in tag p (room_at p 0)

@@ -1,8 +1,9 @@
 -- The calls on a session: tags 10h to 17h (FEED's table).
-use Rattle.std.specs.Prelude.{ℕ, List, cond, length, drop, leb, eqb}
+use Rattle.std.specs.Prelude.{ℕ, List, cond, length, drop, leb, eqb, Result, Ok, Err}
 use Rattle.laws.specs.declared.Done.{Done}
 use Rattle.laws.specs.Calls.{over}
 use Rattle.records.specs.Records.{byte_at, pair_at}
+use Rattle.floats.specs.declared.Instant as floats
 use Rattle.session.specs.declared.Session.{Session}
 use Rattle.session.specs.declared.Begun.{Begun}
 use Rattle.session.specs.declared.Lined.{Lined}
@@ -13,31 +14,21 @@ use Rattle.session.specs.Packing.{pack_of, pack_out}
 use Rattle.answers.specs.declared.Cause.{Cause}
 use Rattle.answers.specs.declared.Cause.TheVariants.{UnknownTag, TooShort, TooLong}
 use Rattle.answers.specs.declared.Hand.TheVariants.{Pack}
-use Rattle.answers.specs.declared.Room.{Room}
-use Rattle.answers.specs.declared.Room.TheVariants.{Of, Not}
-use Rattle.feed.specs.declared.Brought.{Brought}
-use Rattle.feed.specs.declared.Brought.TheVariants as brought
 use Rattle.answers.specs.declared.Answer.{Answer}
-use Rattle.answers.specs.declared.Answer.TheVariants.{Setup, Line, Sound, Instant, VideoRestart, AudioRestart, Handed, Bad}
-use Rattle.feed.specs.declared.Answered.{Answered}
+use Rattle.answers.specs.declared.Answer.TheVariants.{Setup, Line, Sound, Instant, VideoRestart, AudioRestart, Handed}
 use Rattle.answers.specs.Lines.{untouched, fresh}
 use Rattle.answers.specs.Rooms.{room_at}
+use Rattle.answers.specs.declared.Answered as told
+use Rattle.answers.specs.Steps as steps
+use Rattle.answers.specs.Steps.{answers, step, bad_fed}
 use Rattle.feed.specs.Values.{instant_in}
 
--- what a record does: its answer with the session that later calls use, and the work buffer as it leaves it
-pub record Step : Type 0 where
-  pub answered : Answered
-  pub left : List ℕ
+-- what a record does to the session
+abbrev pub Answered : Type 0
+Answered = told.Answered Session
 
-abbrev pub answers : Answer → Session → Answered
-answers a s = record { answer = a; session = s }
-
-abbrev pub step : Answered → List ℕ → Step
-step a left = record { answered = a; left = left }
-
--- a bad record leaves the session as it is
-abbrev pub bad_fed : Session → Cause → Answered
-bad_fed s cause = answers (Bad cause) s
+abbrev pub Step : Type 0
+Step = steps.Step Session
 
 -- ---- what each call's answer tells, and the session that it hands on
 
@@ -78,9 +69,9 @@ unfoldable pub sound_fed : Session → List ℕ → Answered
 sound_fed s p = cond (leb 1 (length p)) (sounded (sound_of s (byte_at p 0) (drop 1 p))) (bad_fed s TooShort)
 
 -- 13h: "u16 room, the ID's bytes"; "Pack into a buffer of `room` bytes"
-unfoldable pub pack_in : Session → List ℕ → Room → Step
-pack_in s p (Of room) = step (packed (pack_of s (drop 2 p) room)) (over (pack_out s (drop 2 p) (untouched room)) fresh)
-pack_in s p (Not cause) = step (bad_fed s cause) fresh
+unfoldable pub pack_in : Session → List ℕ → Result ℕ Cause → Step
+pack_in s p (Ok room) = step (packed (pack_of s (drop 2 p) room)) (over (pack_out s (drop 2 p) (untouched room)) fresh)
+pack_in s p (Err cause) = step (bad_fed s cause) fresh
 
 unfoldable pub pack_fed : Session → List ℕ → Step
 pack_fed s p = pack_in s p (room_at p 0)
@@ -90,9 +81,9 @@ unfoldable pub restart_fed : Session → Session → Answer → List ℕ → Ans
 restart_fed s next answer p = cond (eqb (length p) 0) (answers answer next) (bad_fed s TooLong)
 
 -- 16h: "the instant's call"
-unfoldable pub instant_with : Session → ℕ → Brought → Answered
-instant_with s k (brought.Of i) = instanted (instant_of s k i)
-instant_with s k (brought.Not cause) = bad_fed s cause
+unfoldable pub instant_with : Session → ℕ → Result floats.Instant Cause → Answered
+instant_with s k (Ok i) = instanted (instant_of s k i)
+instant_with s k (Err cause) = bad_fed s cause
 
 unfoldable pub instant_fed : Session → List ℕ → Answered
 instant_fed s p = instant_with s (byte_at p 0) (instant_in p)

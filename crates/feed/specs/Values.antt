@@ -1,14 +1,13 @@
 -- The instant in floating point that a record brings: what follows the fingerprint number in tag 16h (FEED's table).
-use Rattle.std.specs.Prelude.{ℕ, ◌+◌, ◌*◌, List, cond, length, ltb, eqb, Float}
+use Rattle.std.specs.Prelude.{ℕ, ◌+◌, ◌*◌, List, cond, length, ltb, eqb, Float, Result, Ok, Err}
 use Rattle.std.specs.Float.{binary32}
 use Rattle.std.specs.Float.Ieee.{of_bits}
 use Rattle.records.specs.Records.{byte_at}
 use Rattle.rates.specs.Mixes.{mix_listed}
 use Rattle.floats.specs.declared.Instant.{Instant}
 use Rattle.floats.specs.declared.Instant.TheVariants as instant
+use Rattle.answers.specs.declared.Cause.{Cause}
 use Rattle.answers.specs.declared.Cause.TheVariants.{TooShort, TooLong, OtherKind}
-use Rattle.feed.specs.declared.Brought.{Brought}
-use Rattle.feed.specs.declared.Brought.TheVariants as brought
 
 -- "the four bytes of an IEEE 754 binary32, low byte first"
 unfoldable pub bits_at : List ℕ → ℕ → ℕ
@@ -30,11 +29,11 @@ unfoldable pub instant_size : ℕ → ℕ
 instant_size kind = 2 + 4 * kind
 
 -- a payload that brings none is bad by its first fault from the left
-unfoldable pub instant_in : List ℕ → Brought
+unfoldable pub instant_in : List ℕ → Result Instant Cause
 instant_in p =
-    cond (ltb (length p) 2) (brought.Not TooShort)
+    cond (ltb (length p) 2) (Err TooShort)
     (cond (mix_listed (byte_at p 1))
-    (cond (ltb (length p) (instant_size (byte_at p 1))) (brought.Not TooShort)
-    (cond (ltb (instant_size (byte_at p 1)) (length p)) (brought.Not TooLong)
-    (brought.Of (instant_at p))))
-    (brought.Not OtherKind))
+    (cond (ltb (length p) (instant_size (byte_at p 1))) (Err TooShort)
+    (cond (ltb (instant_size (byte_at p 1)) (length p)) (Err TooLong)
+    (Ok (instant_at p))))
+    (Err OtherKind))

@@ -3,7 +3,7 @@ ghost use Rattle.std.specs.Prelude.{◌≡◌, length};
 ghost use Rattle.answers.specs.Lines.{fresh};
 ghost use Rattle.feed.specs.Alone.{sample_fed, read_fed, rewrite_done, rewrite_out, flat_cause, write_lent, carried_fed, lent_fed, room_fed, alone_fed};
 
-use answers::{Answer, Cause, Hand, Room};
+use answers::{Answer, Cause, Hand};
 use laws::Done;
 
 // Line sampling by itself.
@@ -11,10 +11,9 @@ fn sample(payload: &[u8], work: &mut [u8]) -> Answer
     requires { work.old ≡ fresh }
     ensures { (result ≡ (sample_fed payload.now).answer) × (work.new ≡ (sample_fed payload.now).left) }
 {
-    let asked = answers::asks::room_at(payload, 1);
-    match asked {
-        Room::Not(cause) => Answer::Bad(cause),
-        Room::Of(room) => {
+    match answers::asks::room_at(payload, 1) {
+        Err(cause) => Answer::Bad(cause),
+        Ok(room) => {
             let done = sampling::sample_line(payload[0], &payload[3..], &mut work[..room]);
             Answer::Handed(Hand::Sample, done)
         }
@@ -26,8 +25,7 @@ fn read(payload: &[u8], work: &mut [u8]) -> Answer
     requires { work.old ≡ fresh }
     ensures { (result ≡ (read_fed payload.now).answer) × (work.new ≡ (read_fed payload.now).left) }
 {
-    let size = report::report(payload, work);
-    Answer::Reported(size)
+    Answer::Reported(report::report(payload, work))
 }
 
 // Writes what was read; where the reading is refused, the number is its own.
@@ -35,12 +33,13 @@ fn rewrite(bytes: &[u8], lent: &mut [u8]) -> Done
     ensures { (result ≡ rewrite_done bytes.now (length lent.old)) × (lent.new ≡ rewrite_out bytes.now lent.old) }
 {
     let r = container::read_container(bytes);
-    let number = r.number;
-    let contents = r.contents;
-    if number == 0 {
-        return container::write_container(contents, lent);
+    if r.number == 0 {
+        return container::write_container(r.contents, lent);
     }
-    Done { number, written: 0 }
+    Done {
+        number: r.number,
+        written: 0,
+    }
 }
 
 // Why bytes are no flat contents.
@@ -66,14 +65,13 @@ fn flat_cause(bytes: &[u8]) -> Cause
 fn write(bytes: &[u8], lent: &mut [u8]) -> Answer
     ensures { (result ≡ (write_lent bytes.now lent.old).answer) × (lent.new ≡ (write_lent bytes.now lent.old).left) }
 {
-    let u = flat::unflatten(bytes);
-    let ok = u.ok;
-    if !ok {
-        return Answer::Bad(flat_cause(bytes));
+    match flat::unflatten(bytes) {
+        None => Answer::Bad(flat_cause(bytes)),
+        Some(contents) => {
+            let done = container::write_container(contents, lent);
+            Answer::Handed(Hand::Write, done)
+        }
     }
-    let contents = u.contents;
-    let done = container::write_container(contents, lent);
-    Answer::Handed(Hand::Write, done)
 }
 
 // A container carried in a packet or a recording.
@@ -81,24 +79,19 @@ fn carry(tag: u8, rest: &[u8], lent: &mut [u8]) -> Answer
     ensures { (result ≡ (carried_fed tag rest.now lent.old).answer) × (lent.new ≡ (carried_fed tag rest.now lent.old).left) }
 {
     if tag == 0x23 {
-        let done = packet::write_packet(rest, lent);
-        return Answer::Handed(Hand::Wrap, done);
+        return Answer::Handed(Hand::Wrap, packet::write_packet(rest, lent));
     }
     if tag == 0x24 {
-        let done = packet::read_packet(rest, lent);
-        return Answer::Handed(Hand::Unwrap, done);
+        return Answer::Handed(Hand::Unwrap, packet::read_packet(rest, lent));
     }
     if tag == 0x26 {
-        let done = transport::write_transport(rest, lent);
-        return Answer::Handed(Hand::Stream, done);
+        return Answer::Handed(Hand::Stream, transport::write_transport(rest, lent));
     }
     if tag == 0x27 {
-        let done = transport::read_transport(rest, lent);
-        return Answer::Handed(Hand::Unstream, done);
+        return Answer::Handed(Hand::Unstream, transport::read_transport(rest, lent));
     }
     if tag == 0x28 {
-        let done = mending::mend(rest, lent);
-        return Answer::Handed(Hand::Mend, done);
+        return Answer::Handed(Hand::Mend, mending::mend(rest, lent));
     }
     Answer::Bad(Cause::UnknownTag(tag))
 }
@@ -108,8 +101,7 @@ fn lend(tag: u8, rest: &[u8], lent: &mut [u8]) -> Answer
     ensures { (result ≡ (lent_fed tag rest.now lent.old).answer) × (lent.new ≡ (lent_fed tag rest.now lent.old).left) }
 {
     if tag == 0x22 {
-        let done = rewrite(rest, lent);
-        return Answer::Handed(Hand::Rewrite, done);
+        return Answer::Handed(Hand::Rewrite, rewrite(rest, lent));
     }
     if tag == 0x25 {
         return write(rest, lent);
@@ -121,10 +113,9 @@ fn in_room(tag: u8, payload: &[u8], work: &mut [u8]) -> Answer
     requires { work.old ≡ fresh }
     ensures { (result ≡ (room_fed tag payload.now).answer) × (work.new ≡ (room_fed tag payload.now).left) }
 {
-    let asked = answers::asks::room_at(payload, 0);
-    match asked {
-        Room::Not(cause) => Answer::Bad(cause),
-        Room::Of(room) => lend(tag, &payload[2..], &mut work[..room]),
+    match answers::asks::room_at(payload, 0) {
+        Err(cause) => Answer::Bad(cause),
+        Ok(room) => lend(tag, &payload[2..], &mut work[..room]),
     }
 }
 

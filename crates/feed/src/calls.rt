@@ -2,36 +2,36 @@
 ghost use Rattle.std.specs.Prelude.{◌≡◌};
 ghost use Rattle.answers.specs.Lines.{fresh};
 ghost use Rattle.session.specs.Session.{setup_of};
-ghost use Rattle.feed.specs.Calls.{bad_fed, begun, setup_fed, ruled_fed, line_fed, sound_fed, pack_fed, restart_fed, instant_fed, session_fed};
+ghost use Rattle.answers.specs.Steps.{bad_fed};
+ghost use Rattle.feed.specs.Calls.{begun, setup_fed, ruled_fed, line_fed, sound_fed, pack_fed, restart_fed, instant_fed, session_fed};
 
 use crate::values::instant_in;
-use crate::{Answered, Brought};
-use answers::{Answer, Cause, Hand, Room};
+use answers::{Answer, Answered, Cause, Hand};
 use laws::Done;
 use session::Session;
 
-pub(crate) fn bad(s: Session, cause: Cause) -> Answered
+// The same in receive_feed: a generic one would be a public function of answers, and the roll of uniqueness theorems (tools/promises) has none with a type parameter.
+pub(crate) fn bad(s: Session, cause: Cause) -> Answered<Session>
     ensures { result ≡ bad_fed s cause }
 {
     Answered {
         answer: Answer::Bad(cause),
-        session: s,
+        after: s,
     }
 }
 
-fn begin(format: u8, rate: u8, rule: u8, mixes: &[u8]) -> Answered
+fn begin(format: u8, rate: u8, rule: u8, mixes: &[u8]) -> Answered<Session>
     ensures { result ≡ begun (setup_of format rate rule mixes.now) }
 {
     let b = session::setup(format, rate, rule, mixes);
-    let next = b.session;
     Answered {
         answer: Answer::Setup(b.number),
-        session: next,
+        after: b.session,
     }
 }
 
 // Setup by rule 1.
-fn setup(s: Session, payload: &[u8]) -> Answered
+fn setup(s: Session, payload: &[u8]) -> Answered<Session>
     ensures { result ≡ setup_fed s payload.now }
 {
     if payload.len() < 2 {
@@ -41,7 +41,7 @@ fn setup(s: Session, payload: &[u8]) -> Answered
 }
 
 // Setup by the rule that the record names.
-fn ruled(s: Session, payload: &[u8]) -> Answered
+fn ruled(s: Session, payload: &[u8]) -> Answered<Session>
     ensures { result ≡ ruled_fed s payload.now }
 {
     if payload.len() < 3 {
@@ -50,59 +50,54 @@ fn ruled(s: Session, payload: &[u8]) -> Answered
     begin(payload[0], payload[1], payload[2], &payload[3..])
 }
 
-fn line(s: Session, payload: &[u8]) -> Answered
+fn line(s: Session, payload: &[u8]) -> Answered<Session>
     ensures { result ≡ line_fed s payload.now }
 {
     if payload.len() < 2 {
         return bad(s, Cause::TooShort);
     }
     let l = session::line(s, records::pair_at(payload, 0), &payload[2..]);
-    let told = l.told;
-    let next = l.session;
     Answered {
-        answer: Answer::Line(l.number, told),
-        session: next,
+        answer: Answer::Line(l.number, l.told),
+        after: l.session,
     }
 }
 
-fn sound(s: Session, payload: &[u8]) -> Answered
+fn sound(s: Session, payload: &[u8]) -> Answered<Session>
     ensures { result ≡ sound_fed s payload.now }
 {
     if payload.len() < 1 {
         return bad(s, Cause::TooShort);
     }
     let h = session::sound(s, payload[0] as usize, &payload[1..]);
-    let next = h.session;
     Answered {
         answer: Answer::Sound(h.number),
-        session: next,
+        after: h.session,
     }
 }
 
-fn pack(s: Session, payload: &[u8], work: &mut [u8]) -> Answered
+fn pack(s: Session, payload: &[u8], work: &mut [u8]) -> Answered<Session>
     requires { work.old ≡ fresh }
     ensures { (result ≡ (pack_fed s payload.now).answered) × (work.new ≡ (pack_fed s payload.now).left) }
 {
-    let asked = answers::asks::room_at(payload, 0);
-    match asked {
-        Room::Not(cause) => bad(s, cause),
-        Room::Of(room) => {
+    match answers::asks::room_at(payload, 0) {
+        Err(cause) => bad(s, cause),
+        Ok(room) => {
             let p = session::pack(s, &payload[2..], &mut work[..room]);
-            let next = p.session;
             let done = Done {
                 number: p.number,
                 written: p.written,
             };
             Answered {
                 answer: Answer::Handed(Hand::Pack, done),
-                session: next,
+                after: p.session,
             }
         }
     }
 }
 
 // A restart has no payload.
-fn restart(s: Session, next: Session, answer: Answer, payload: &[u8]) -> Answered
+fn restart(s: Session, next: Session, answer: Answer, payload: &[u8]) -> Answered<Session>
     ensures { result ≡ restart_fed s next answer payload.now }
 {
     if payload.len() != 0 {
@@ -110,28 +105,26 @@ fn restart(s: Session, next: Session, answer: Answer, payload: &[u8]) -> Answere
     }
     Answered {
         answer,
-        session: next,
+        after: next,
     }
 }
 
-fn instant(s: Session, payload: &[u8]) -> Answered
+fn instant(s: Session, payload: &[u8]) -> Answered<Session>
     ensures { result ≡ instant_fed s payload.now }
 {
-    let brought = instant_in(payload);
-    match brought {
-        Brought::Not(cause) => bad(s, cause),
-        Brought::Of(i) => {
+    match instant_in(payload) {
+        Err(cause) => bad(s, cause),
+        Ok(i) => {
             let h = session::instant(s, payload[0] as usize, i);
-            let next = h.session;
             Answered {
                 answer: Answer::Instant(h.number),
-                session: next,
+                after: h.session,
             }
         }
     }
 }
 
-pub(crate) fn on_session(s: Session, tag: u8, payload: &[u8], work: &mut [u8]) -> Answered
+pub(crate) fn on_session(s: Session, tag: u8, payload: &[u8], work: &mut [u8]) -> Answered<Session>
     requires { work.old ≡ fresh }
     ensures { (result ≡ (session_fed s tag payload.now).answered) × (work.new ≡ (session_fed s tag payload.now).left) }
 {
@@ -148,12 +141,10 @@ pub(crate) fn on_session(s: Session, tag: u8, payload: &[u8], work: &mut [u8]) -
         return pack(s, payload, work);
     }
     if tag == 0x14 {
-        let next = session::video_restart(s);
-        return restart(s, next, Answer::VideoRestart, payload);
+        return restart(s, session::video_restart(s), Answer::VideoRestart, payload);
     }
     if tag == 0x15 {
-        let next = session::audio_restart(s);
-        return restart(s, next, Answer::AudioRestart, payload);
+        return restart(s, session::audio_restart(s), Answer::AudioRestart, payload);
     }
     if tag == 0x16 {
         return instant(s, payload);

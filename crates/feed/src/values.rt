@@ -4,7 +4,6 @@ ghost use Rattle.records.specs.Records.{byte_at};
 ghost use Rattle.rates.specs.Mixes.{mix_listed};
 ghost use Rattle.feed.specs.Values.{bits_at, float_at, instant_at, instant_size, instant_in};
 
-use crate::Brought;
 use answers::Cause;
 use floats::{Five, Instant};
 
@@ -54,22 +53,22 @@ fn instant_at(payload: &[u8]) -> Instant
 }
 
 // The instant that a record brings, or why it brings none.
-pub(crate) fn instant_in(payload: &[u8]) -> Brought
+pub(crate) fn instant_in(payload: &[u8]) -> Result<Instant, Cause>
     ensures { result ≡ instant_in payload.now }
 {
     if payload.len() < 2 {
-        return Brought::Not(Cause::TooShort);
+        return Err(Cause::TooShort);
     }
     let kind = payload[1];
     if !rates::mix_listed(kind) {
-        return Brought::Not(Cause::OtherKind);
+        return Err(Cause::OtherKind);
     }
     let size = 2 + 4 * (kind as usize);
     if payload.len() < size {
-        return Brought::Not(Cause::TooShort);
+        return Err(Cause::TooShort);
     }
     if size < payload.len() {
-        return Brought::Not(Cause::TooLong);
+        return Err(Cause::TooLong);
     }
-    Brought::Of(instant_at(payload))
+    Ok(instant_at(payload))
 }

@@ -2,7 +2,6 @@
 pub mod Steps
 pub mod Taking
 pub mod Counts
-pub mod Bytes
 pub mod Bits
 pub mod History
 pub mod Answers

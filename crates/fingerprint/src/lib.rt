@@ -6,7 +6,7 @@ ghost use Rattle.std.specs.Prelude.{◌≡◌, ◌+◌, ◌-◌, ◌*◌, ◌%�
 ghost use Rattle.sound.specs.Mix.{instant_bytes};
 ghost use Rattle.floats.specs.Instants.{float_value};
 ghost use Rattle.fingerprint.specs.State.{fresh_of, pushed_of, step_of, heard_of, values_at, instants, whole_instants, new_bits, store_number, sound_number, instant_number, holds_of, shifted, first_bytes, take_of};
-ghost use Rattle.fingerprint.specs.Parts.{next_filters, through_of, with_filters_of};
+ghost use Rattle.fingerprint.specs.Parts.{filters_of, next_filters, through_of, with_filters_of};
 
 use floats::Instant;
 
@@ -39,6 +39,7 @@ struct Filters {
 }
 
 // A fingerprint as setup or an audio restart leaves it.
+#[tactic(auto, unfolding(crate::specs::State::fresh_of))]
 pub fn fresh(mix: u8) -> Fingerprint
     ensures { result ≡ fresh_of mix }
 {
@@ -49,7 +50,7 @@ pub fn fresh(mix: u8) -> Fingerprint
         wait: 0,
         started: false,
         held: 0,
-        bytes: [0u8; 32],
+        bytes: [0; 32],
     }
 }
 
@@ -67,7 +68,21 @@ pub fn mix_type(f: Fingerprint) -> u8
     f.mix
 }
 
+// The filters of a fingerprint. They are fields of it, and no field of its own, since `demands.proofs.Demand3.stored` and `History.Holds` speak of its
+// envelope and its mean.
+#[tactic(auto, unfolding(crate::specs::Parts::filters_of))]
+fn filters_of(f: Fingerprint) -> Filters
+    ensures { result ≡ filters_of f }
+{
+    Filters {
+        envelope: f.envelope,
+        mean: f.mean,
+        started: f.started,
+    }
+}
+
 // A sample enters both filters, unless it is sample 0.
+#[tactic(auto, unfolding(crate::specs::Parts::next_filters))]
 fn next_filters(v: Filters, a: u16) -> Filters
     ensures { result ≡ next_filters v a }
 {
@@ -78,11 +93,7 @@ fn next_filters(v: Filters, a: u16) -> Filters
             started: true,
         }
     } else {
-        Filters {
-            envelope: v.envelope,
-            mean: v.mean,
-            started: true,
-        }
+        Filters { started: true, ..v }
     }
 }
 
@@ -119,41 +130,35 @@ fn kept(f: Fingerprint, v: Filters) -> Fingerprint
 }
 
 // A fingerprint with its filters and its wait put back.
+#[tactic(auto, unfolding(crate::specs::Parts::with_filters_of))]
 fn with_filters(f: Fingerprint, v: Filters, wait: u8) -> Fingerprint
     ensures { result ≡ with_filters_of f v wait }
 {
-    let mut next = f;
-    next.envelope = v.envelope;
-    next.mean = v.mean;
-    next.started = v.started;
-    next.wait = wait;
-    next
+    Fingerprint {
+        envelope: v.envelope,
+        mean: v.mean,
+        started: v.started,
+        wait,
+        ..f
+    }
 }
 
 // The samples that pass between two kept ones.
 fn less_one(d: u8) -> u8
     ensures { result ≡ d - 1 }
 {
-    if d == 0 { 0 } else { d - 1 }
+    d.saturating_sub(1)
 }
 
 // One mixed sample: both filters, and its bit where no sample is waited for.
 pub fn step(f: Fingerprint, a: u16, d: u8) -> Fingerprint
     ensures { result ≡ step_of d f a }
 {
-    let v = next_filters(
-        Filters {
-            envelope: f.envelope,
-            mean: f.mean,
-            started: f.started,
-        },
-        a,
-    );
-    let wait = f.wait;
-    if wait == 0 {
+    let v = next_filters(filters_of(f), a);
+    if f.wait == 0 {
         with_filters(kept(f, v), v, less_one(d))
     } else {
-        with_filters(f, v, wait - 1)
+        with_filters(f, v, f.wait - 1)
     }
 }
 
@@ -162,10 +167,7 @@ fn instants_in(mix: u8, len: usize) -> usize
     ensures { result ≡ instants mix len }
 {
     let size = sound::instant_bytes(mix);
-    if size == 0 {
-        return 0;
-    }
-    len / size
+    if size == 0 { 0 } else { len / size }
 }
 
 // n instants of a block, from a place on, enter the filters.
@@ -175,12 +177,8 @@ fn through_as(v: Filters, rule: u8, mix: u8, block: &[u8], at: usize, n: usize) 
 {
     let size = sound::instant_bytes(mix);
     let mut next = v;
-    let mut p = at;
-    let mut i = 0;
-    while i < n {
-        next = next_filters(next, sound::instant_value(rule, mix, block, p));
-        p = p + size;
-        i += 1;
+    for i in 0..n {
+        next = next_filters(next, sound::instant_value(rule, mix, block, at + i * size));
     }
     next
 }
@@ -190,22 +188,14 @@ fn through(v: Filters, rule: u8, mix: u8, block: &[u8], at: usize, n: usize) -> 
     requires { at + n * instant_bytes mix ≤ length block.now }
     ensures { result ≡ through_of v (values_at rule mix block.now at n) }
 {
-    if mix == 1 {
-        return through_as(v, rule, 1, block, at, n);
+    match (mix, rule) {
+        (1, _) => through_as(v, rule, 1, block, at, n),
+        (2, 2) => through_as(v, 2, 2, block, at, n),
+        (2, _) => through_as(v, rule, 2, block, at, n),
+        (5, 2) => through_as(v, 2, 5, block, at, n),
+        (5, _) => through_as(v, rule, 5, block, at, n),
+        _ => through_as(v, rule, mix, block, at, n),
     }
-    if mix == 2 {
-        if rule == 2 {
-            return through_as(v, 2, 2, block, at, n);
-        }
-        return through_as(v, rule, 2, block, at, n);
-    }
-    if mix == 5 {
-        if rule == 2 {
-            return through_as(v, 2, 5, block, at, n);
-        }
-        return through_as(v, rule, 5, block, at, n);
-    }
-    through_as(v, rule, mix, block, at, n)
 }
 
 // How many samples pass before the next kept one or the block's end.
@@ -229,11 +219,7 @@ pub fn heard(f: Fingerprint, rule: u8, d: u8, block: &[u8]) -> Fingerprint
     let pause = less_one(d);
     let mut rest = f;
     let mut wait = f.wait;
-    let mut v = Filters {
-        envelope: f.envelope,
-        mean: f.mean,
-        started: f.started,
-    };
+    let mut v = filters_of(f);
     let mut at = 0;
     let mut i = 0;
     while i < n {
@@ -241,14 +227,14 @@ pub fn heard(f: Fingerprint, rule: u8, d: u8, block: &[u8]) -> Fingerprint
             v = next_filters(v, sound::instant_value(rule, mix, block, at));
             rest = kept(rest, v);
             wait = pause;
-            at = at + size;
-            i = i + 1;
+            at += size;
+            i += 1;
         } else {
             let k = least(wait, n - i);
             v = through(v, rule, mix, block, at, k as usize);
-            wait = wait - k;
-            at = at + (k as usize) * size;
-            i = i + (k as usize);
+            wait -= k;
+            at += (k as usize) * size;
+            i += k as usize;
         }
     }
     with_filters(rest, v, wait)
@@ -272,13 +258,11 @@ fn new_bits(d: u8, wait: u8, n: usize) -> usize
 fn store_number(held: usize, d: u8, wait: u8, n: usize) -> u8
     ensures { result ≡ store_number held d wait n }
 {
-    if 256 < held {
-        return 9;
+    if 256 < held || 256 - held < new_bits(d, wait, n) {
+        9
+    } else {
+        0
     }
-    if 256 - held < new_bits(d, wait, n) {
-        return 9;
-    }
-    0
 }
 
 // Whether len bytes are whole instants.
@@ -286,31 +270,24 @@ fn whole_instants(mix: u8, len: usize) -> bool
     ensures { result ≡ whole_instants mix len }
 {
     let size = sound::instant_bytes(mix);
-    if size == 0 {
-        return len == 0;
-    }
-    len % size == 0
+    if size == 0 { len == 0 } else { len % size == 0 }
 }
 
 // The number that refuses a block of len bytes, or 0 (01, "What a caller is told", Sound; its 7 is the session's).
 pub fn sound_number(f: Fingerprint, d: u8, len: usize) -> u8
     ensures { result ≡ sound_number d f len }
 {
-    let mix = f.mix;
-    if !whole_instants(mix, len) {
+    if !whole_instants(f.mix, len) {
         return 8;
     }
-    store_number(f.held, d, f.wait, instants_in(mix, len))
+    store_number(f.held, d, f.wait, instants_in(f.mix, len))
 }
 
 // The number that refuses an instant in floating point, or 0 (02, A3; its 1 and 7 are the session's).
 pub fn instant_number(f: Fingerprint, d: u8, i: Instant) -> u8
     ensures { result ≡ instant_number d f i }
 {
-    if floats::has_nan(i) {
-        return 14;
-    }
-    if floats::kind(i) != f.mix {
+    if floats::has_nan(i) || floats::kind(i) != f.mix {
         return 14;
     }
     store_number(f.held, d, f.wait, 1)
@@ -335,8 +312,8 @@ fn shift(old: [u8; 32], n: usize) -> [u8; 32]
     requires { n ≤ 32 }
     ensures { result ≡ shifted n old }
 {
-    let mut left = [0u8; 32];
-    laws::copy_at(&old[n..], &mut left, 0);
+    let mut left = [0; 32];
+    left[..32 - n].copy_from_slice(&old[n..]);
     left
 }
 
@@ -345,8 +322,8 @@ fn first_bytes(old: [u8; 32], n: usize) -> [u8; 5]
     requires { n ≤ 5 }
     ensures { result ≡ first_bytes n old }
 {
-    let mut out = [0u8; 5];
-    laws::copy_at(&old[..n], &mut out, 0);
+    let mut out = [0; 5];
+    out[..n].copy_from_slice(&old[..n]);
     out
 }
 
@@ -354,27 +331,20 @@ fn first_bytes(old: [u8; 32], n: usize) -> [u8; 5]
 pub fn take(f: Fingerprint, n: usize) -> Taken
     ensures { result ≡ take_of f n }
 {
-    if 5 < n {
+    if 5 < n || f.held < 8 * n {
         return Taken {
             fingerprint: f,
-            bytes: [0u8; 5],
+            bytes: [0; 5],
         };
     }
-    let held = f.held;
-    if held < 8 * n {
-        return Taken {
-            fingerprint: f,
-            bytes: [0u8; 5],
-        };
-    }
-    let old = f.bytes;
-    let out = first_bytes(old, n);
-    let left = shift(old, n);
-    let mut next = f;
-    next.bytes = left;
-    next.held = held - 8 * n;
+    let bytes = shift(f.bytes, n);
+    let out = first_bytes(f.bytes, n);
     Taken {
-        fingerprint: next,
+        fingerprint: Fingerprint {
+            bytes,
+            held: f.held - 8 * n,
+            ..f
+        },
         bytes: out,
     }
 }

@@ -7,14 +7,14 @@ use native.Mathlib.Omega.{arith}
 use lib.Dec.{eqb}
 use lib.ListN.{length, get_or, take, drop, length-append}
 use lib.Seq.{take_at, drop_at, get_or-drop, drop-drop}
+use Rattle.std.specs.Prelude.{Some}
 use Rattle.laws.specs.declared.Video.{Video}
 use Rattle.laws.specs.declared.Video.TheVariants.{Absent, One, Two}
 use Rattle.container.specs.declared.Print.{Print}
 use Rattle.container.specs.declared.Contents.{Contents}
 use Rattle.container_laws.specs.Typed.{TypedPrints, Typed}
-use Rattle.flat.specs.declared.Values.{Values}
 use Rattle.flat.specs.Flat.{flat_video, flat_print, flat_prints, flat}
-use Rattle.flat.specs.Unflat.{says, video_of, video_at, print_of, prints_of, contents_of, unflat}
+use Rattle.flat.specs.Unflat.{video_of, video_at, print_of, prints_of, contents_of, unflat}
 use Rattle.flat.proofs.Places.{length_flat, unflat_is, contents_is}
 
 -- ---- fingerprints
@@ -38,7 +38,7 @@ prints_back (p ∷ ps) t =
 -- ---- what follows the ID
 
 module _ (count : ℕ) (rest : List ℕ) where
-  video_back : (v : Video) → video_of (get_or (flat_video v ++ (count ∷ rest)) 0 0) (get_or (flat_video v ++ (count ∷ rest)) 1 0) (get_or (flat_video v ++ (count ∷ rest)) 2 0) ≡ says v
+  video_back : (v : Video) → video_of (get_or (flat_video v ++ (count ∷ rest)) 0 0) (get_or (flat_video v ++ (count ∷ rest)) 1 0) (get_or (flat_video v ++ (count ∷ rest)) 2 0) ≡ Some v
   unfolding flat_video video_of
   video_back Absent = refl
   video_back (One a) = refl
@@ -73,7 +73,7 @@ module _ (c : Contents) (typed : Typed c) where
   id_back : c.id ≡ take 20 (drop 3 (flat c))
   id_back = sym (ap (λ (l : List ℕ). take 20 (drop 3 l)) split ∙ take_at c.id tail 20 typed.id_long)
 
-  values_back : video_at (flat c) ≡ says c.video
+  values_back : video_at (flat c) ≡ Some c.video
   unfolding video_at
   values_back = rw (at_23 0, at_23 1, at_23 2) (video_back c.count (flat_prints c.prints) c.video)
 
@@ -83,17 +83,17 @@ module _ (c : Contents) (typed : Typed c) where
       sym (drop-drop 4 23 (flat c)) ∙ ap (drop 4) from_23 ∙ (after_video c.count (flat_prints c.prints) c.video).1 in
       sym (ap (prints_of 32) d ∙ ap (λ (n : ℕ). prints_of n (flat_prints c.prints)) (sym typed.many) ∙ prints_back c.prints typed.prints)
 
-  pub contents_back : contents_of (flat c) ≡ c
+  pub contents_back : contents_of (flat c) c.video ≡ c
   unfolding flat
   contents_back =
-      contents_is (flat c) c.id c.video c.prints id_back (ap (λ (v : Values). v.video) (sym values_back)) places_back
+      contents_is (flat c) c.video c.id c.prints id_back places_back
       ∙ ap (λ (n : ℕ). record { counter = c.counter; rate = c.rate; hasid = eqb (cond c.hasid 1 0) 1; id = c.id; video = c.video; count = n; prints = c.prints })
       (at_23 3 ∙ (after_video c.count (flat_prints c.prints) c.video).0)
       ∙ ap (λ (b : Bool). record { counter = c.counter; rate = c.rate; hasid = b; id = c.id; video = c.video; count = c.count; prints = c.prints }) (present_back c.hasid).0
 
   -- contents written flat and read back are the same contents
-  pub flat_back : unflat (flat c) ≡ record { ok = true; contents = c }
+  pub flat_back : unflat (flat c) ≡ Some c
   unfolding flat
   flat_back =
-      unflat_is (flat c) (length_flat c typed.id_long (omega (arith, length_prints c.prints typed.prints, typed.many))) (present_back c.hasid).1 (ap (λ (v : Values). v.ok) values_back)
-      ∙ ap (λ (x : Contents). record { ok = true; contents = x }) contents_back
+      unflat_is (flat c) c.video (length_flat c typed.id_long (omega (arith, length_prints c.prints typed.prints, typed.many))) (present_back c.hasid).1 values_back
+      ∙ ap (λ (x : Contents). Some x) contents_back

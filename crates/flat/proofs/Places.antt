@@ -2,7 +2,7 @@
 use Prim.Native.Nat.{ℕ, zero, suc, ◌+◌, ◌*◌, ◌≤◌, ◌<◌}
 use mathlib.Core.Path.{◌≡◌, refl, sym, ap, ap₂, ◌∙◌}
 use mathlib.Core.List.{List, [], ◌∷◌, ◌++◌, append-nil, append_assoc}
-use mathlib.Core.Bool.{true, cond}
+use mathlib.Core.Bool.{cond}
 use native.Mathlib.Omega.{arith}
 use native.Mathlib.Numerals.{add-one}
 use native.Mathlib.Nat.{not-suc-le-zero}
@@ -10,6 +10,7 @@ use borrow.Author.Tests.{eq-eqb, le-leb}
 use lib.Dec.{eqb}
 use lib.ListN.{length, get_or, take, drop, length-append, drop_of_length-le}
 use lib.Seq.{sets, drop-cons, drop-drop}
+use Rattle.std.specs.Prelude.{Some}
 use Rattle.laws.specs.Calls.{over}
 use Rattle.laws.proofs.Lists.{sets_append, sets_then, sets_over}
 use Rattle.laws.specs.declared.Video.{Video}
@@ -96,12 +97,12 @@ flat_put c z o₁ o₂ o₃ o₄ o₅ values present whole i n pe ve e₁ e₂ e
 
 -- ---- what 283 bytes say
 
-module _ (s : List ℕ) where
-  pub unflat_is : length s ≡ 283 → get_or s 2 0 ≤ 1 → (video_at s).ok ≡ true → unflat s ≡ record { ok = true; contents = contents_of s }
+module _ (s : List ℕ) (v : Video) where
+  pub unflat_is : length s ≡ 283 → get_or s 2 0 ≤ 1 → video_at s ≡ Some v → unflat s ≡ Some (contents_of s v)
   unfolding unflat
-  unflat_is l p v = rw (eq-eqb _ _ l, le-leb _ _ p, v)
+  unflat_is l p e = rw (eq-eqb _ _ l, le-leb _ _ p, e)
 
-  pub contents_is : (id : List ℕ) (v : Video) (prints : List Print) → id ≡ take 20 (drop 3 s) → v ≡ (video_at s).video → prints ≡ prints_of 32 (drop 27 s)
-      → contents_of s ≡ record { counter = get_or s 0 0; rate = get_or s 1 0; hasid = eqb (get_or s 2 0) 1; id = id; video = v; count = get_or s 26 0; prints = prints }
+  pub contents_is : (id : List ℕ) (prints : List Print) → id ≡ take 20 (drop 3 s) → prints ≡ prints_of 32 (drop 27 s)
+      → contents_of s v ≡ record { counter = get_or s 0 0; rate = get_or s 1 0; hasid = eqb (get_or s 2 0) 1; id = id; video = v; count = get_or s 26 0; prints = prints }
   unfolding contents_of
-  contents_is id v prints e f g = rw (e, f, g)
+  contents_is id prints e f = rw (e, f)

@@ -8,7 +8,7 @@
 use Rattle.std.proofs.Common.{◌≡◌, ℕ, zero, suc, ◌+◌, ◌-◌, ◌*◌, ◌/◌, ◌%◌, ◌^◌, ◌<◌, ◌≤◌, min, Bool, true, false, not, ◌&&◌, ◌||◌, T, eqb, ltb, leb, ℤ, pos, negsuc, ◌-ℤ◌, neg_ℤ, sym, refl, ap, ◌∙◌, subst, true≢false, le_trans, le_of_eq, lt_of_lt_of_le, mul-le-mul_right, mul_assoc, mul_comm, div-lt_iff_lt-mul, lt_of_mul-lt-mul_right, mul-lt-mul_of_pos_right, mul-pos, one-mul, lt_of_not-le, le-div_iff_mul-le, zero-mul, mul-one, mul_right_comm, not-le_of_lt, div-mul-le_self, div-one, mul-div_cancel, mul_left_comm, arith, lit<, lit≤, eqb→eq, ltb→lt, lt→ltb, leb→le, nltb→le, T_not, pow_pos, pow-add, le-ltb}
 use lib.Pow.{pow-lt}
 use lib.Signed.{mag}
-use lib.Ieee.{Float, nan, inf, fin, binary32, up, down, below, lt, le, eq, ne, mul, round, of_int, to_signed, fits}
+use lib.Ieee.{Float, nan, inf, fin, binary32, up, down, below, lt, le, eq, is_nan, mul, round, of_int, to_signed, fits}
 use lib.Ieee.Fits.{up_pos, down_pos, and_l, and_r}
 use lib.Ieee.Nearest.{div_same}
 use lib.Ieee.Exact.{HasValue, round_exact}
@@ -279,16 +279,16 @@ held_bottom (suc n) d D h =
     let k : 32767 ≤ n / d = (le-div_iff_mul-le D).1 g in
     let e : min (n / d) 32767 ≡ 32767 = omega arith in ap negsuc e
 
-pub at_top : (x : Float) → ne x x ≡ false → lt x one ≡ false → pos 32767 ≡ sample_of x
-unfolding lt ne sample_of
+pub at_top : (x : Float) → is_nan x ≡ false → lt x one ≡ false → pos 32767 ≡ sample_of x
+unfolding lt is_nan sample_of
 at_top nan a b = absurd (true≢false a)
 at_top (inf true) a b = absurd (true≢false b)
 at_top (inf false) a b = refl
 at_top (fin true m e) a b = absurd (T_not (ltb 0 (m * up e * 1 + 1 * 1 * down e)) (no_test _ b) (lt→ltb 0 (m * up e * 1 + 1 * 1 * down e) (omega (arith, down_pos e))))
 at_top (fin false m e) a b = sym (held_top (over149 m e * 32768) (2 ^ 149) (lit< tt) (large m e (far (m * up e) (down e) (no_test _ b))))
 
-pub at_bottom : (x : Float) → ne x x ≡ false → lt minus_one x ≡ false → negsuc 32767 ≡ sample_of x
-unfolding lt ne sample_of
+pub at_bottom : (x : Float) → is_nan x ≡ false → lt minus_one x ≡ false → negsuc 32767 ≡ sample_of x
+unfolding lt is_nan sample_of
 at_bottom nan a b = absurd (true≢false a)
 at_bottom (inf true) a b = refl
 at_bottom (inf false) a b = absurd (true≢false b)

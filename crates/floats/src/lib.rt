@@ -2,7 +2,6 @@
 #![tactic(auto)]
 
 ghost use Rattle.std.specs.Prelude.{◌≡◌, ◌^◌, ◌<◌, true, false, T, pos};
-ghost use Rattle.std.specs.Int.Signed.{mag};
 ghost use Rattle.std.specs.Float.Ieee as Ieee;
 ghost use Rattle.std.specs.Float.{fin};
 ghost use Rattle.sound.specs.Mix.{signed};
@@ -45,7 +44,7 @@ fn floored(x: f32) -> i32
 pub fn sample_of(x: f32) -> i32
     ensures { result ≡ sample_of x }
 {
-    if x != x {
+    if x.is_nan() {
         return 0;
     }
     if x < 1.0 {
@@ -57,24 +56,11 @@ pub fn sample_of(x: f32) -> i32
     32767
 }
 
-// The 16 bits of a sample.
-fn sixteen_bits(s: i32) -> u16
-    requires { mag s < 2 ^ 15 }
-    ensures { signed result ≡ s }
-{
-    if s < 0 { (s + 65536) as u16 } else { s as u16 }
-}
-
+// The 16 bits of a value's sample.
 fn bits_of(x: f32) -> u16
     ensures { signed result ≡ sample_of x }
 {
-    sixteen_bits(sample_of(x))
-}
-
-fn is_nan(x: f32) -> bool
-    ensures { result ≡ Ieee.is_nan x }
-{
-    x != x
+    (sample_of(x) as i16).cast_unsigned()
 }
 
 // The mix type that an instant is one of.
@@ -93,9 +79,13 @@ pub fn has_nan(i: Instant) -> bool
     ensures { result ≡ has_nan i }
 {
     match i {
-        Instant::Mono(x) => is_nan(x),
-        Instant::Stereo(l, r) => is_nan(l) | is_nan(r),
-        Instant::Five(f) => is_nan(f.L) | is_nan(f.R) | is_nan(f.C) | is_nan(f.Ls) | is_nan(f.Rs),
+        Instant::Mono(x) => x.is_nan(),
+        Instant::Stereo(l, r) => l.is_nan() | r.is_nan(),
+        Instant::Five(f) => f.L.is_nan()
+            | f.R.is_nan()
+            | f.C.is_nan()
+            | f.Ls.is_nan()
+            | f.Rs.is_nan(),
     }
 }
 

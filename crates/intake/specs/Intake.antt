@@ -1,7 +1,7 @@
 -- What can be said of a record read from the input: no contract can say which bytes come.
 use Rattle.std.specs.Prelude.{Bool, true, false, ℕ, ◌+◌, ◌≤◌, ◌≡◌, List, length, drop}
 use Rattle.answers.specs.declared.Answer.{Answer}
-use Rattle.answers.specs.declared.Answer.TheVariants.{Setup, Line, Sound, Instant, VideoRestart, AudioRestart, Receiver, Arrive, GiveUp, Handed, Reported, Bad, Finished}
+use Rattle.answers.specs.declared.Answer.TheVariants.{Bad, Finished}
 use Rattle.records.specs.Records.{pair_at}
 
 -- the size of the record whose tag and length stand in front
@@ -16,16 +16,6 @@ pub record Took (old new : List ℕ) (n : ℕ) : Type 0 where
 
 -- "prints `bad record` and stops"; "At the end of the feed it stops"
 abbrev pub is_last : Answer → Bool
-is_last (Setup n) = false
-is_last (Line n told) = false
-is_last (Sound n) = false
-is_last (Instant n) = false
-is_last VideoRestart = false
-is_last AudioRestart = false
-is_last Receiver = false
-is_last (Arrive n) = false
-is_last GiveUp = false
-is_last (Handed hand done) = false
-is_last (Reported size) = false
 is_last (Bad cause) = true
 is_last Finished = true
+is_last answer = false

@@ -2,10 +2,16 @@
 // at which a program stops.
 #![tactic(auto)]
 
-ghost use Rattle.std.specs.Prelude.{◌≡◌, ◌≤◌};
+ghost use Rattle.std.specs.Prelude.{◌≡◌};
 ghost use Rattle.intake.specs.Intake.{Took, is_last};
 
 use answers::{Answer, Cause};
+
+// The longest record has a tag, a length and 65,535 bytes.
+pub const LONGEST_RECORD: usize = 65538;
+
+// No line is longer (next_fits, of both feeds).
+pub const LONGEST_LINE: usize = 8256;
 
 // Reads the next record of an open file into the front of bytes, and answers how many bytes of it there are: fewer than it has where the file ends first.
 // Of a record that bytes has no room for only the tag and the length are read, so that it counts as cut short.
@@ -33,22 +39,11 @@ pub fn read_record(bytes: &mut [u8]) -> usize
     read_record_from(0, bytes)
 }
 
-// How much of a line of so many bytes is shown.
-fn shown(size: usize) -> usize
-    ensures { result ≤ 128 }
-{
-    if size <= 128 {
-        return size;
-    }
-    128
-}
-
 // Says why a record is bad, and where it stands.
 fn complain(program: &[u8], number: u64, byte: u64, cause: Cause) {
     let mut line = [0u8; 128];
     let size = answers::fault::say_fault(program, number, byte, cause, &mut line);
-    let n = shown(size);
-    io::write_all(2, &line[..n]);
+    io::write_all(2, &line[..size.min(128)]);
 }
 
 // Whether a program stops at a record's answer; of a bad record it is said why.
@@ -56,21 +51,11 @@ pub fn stops(program: &[u8], answer: Answer, number: u64, byte: u64) -> bool
     ensures { result ≡ is_last answer }
 {
     match answer {
-        Answer::Setup(n) => false,
-        Answer::Line(n, told) => false,
-        Answer::Sound(n) => false,
-        Answer::Instant(n) => false,
-        Answer::VideoRestart => false,
-        Answer::AudioRestart => false,
-        Answer::Receiver => false,
-        Answer::Arrive(n) => false,
-        Answer::GiveUp => false,
-        Answer::Handed(hand, done) => false,
-        Answer::Reported(size) => false,
         Answer::Bad(cause) => {
             complain(program, number, byte, cause);
             true
         }
         Answer::Finished => true,
+        _ => false,
     }
 }

@@ -16,41 +16,15 @@ const NAME_TOO_LONG: i32 = 36;
 
 const NO_TEXT: i32 = 84;
 
-// Room for the longest field: a tag, a length and 65,535 bytes.
-fn field_room() -> [u8; 65538]
-    ensures { 65538 ≡ length result }
-{
-    [0; 65538]
-}
-
-// Room for the longest report.
-fn report_room() -> [u8; 35500]
-    ensures { 35500 ≡ length result }
-{
-    [0; 35500]
-}
-
-// Room for this program's name and that of a file.
-fn line_room() -> [u8; 4103]
-    ensures { 4103 ≡ length result }
-{
-    [0; 4103]
-}
-
 // Judges field after field until the file ends or is refused, which it is at the 501st.
 fn judge_fields(fd: i32, bytes: &mut [u8], lines: &mut [u8]) -> Report
     ensures { Within result }
 {
     let mut report = judging::report::open();
-    let mut left: u32 = 501;
-    while 0 < left {
-        left -= 1;
+    for _ in 0..501 {
         let read = intake::read_record_from(fd, bytes);
         report = judging::report::field(report, &bytes[..read], lines);
-        if read == 0 {
-            return report;
-        }
-        if report.number != 0 {
+        if read == 0 || report.number != 0 {
             return report;
         }
     }
@@ -59,8 +33,9 @@ fn judge_fields(fd: i32, bytes: &mut [u8], lines: &mut [u8]) -> Report
 
 // Nothing is printed before the whole file has been judged.
 fn judge_file(fd: i32) {
-    let mut bytes = field_room();
-    let mut lines = report_room();
+    let mut bytes = [0; intake::LONGEST_RECORD];
+    // the longest report: `upper_bound` of `close`
+    let mut lines = [0; 35500];
     let report = judge_fields(fd, &mut bytes, &mut lines);
     let size = judging::report::close(report, &mut lines);
     io::write_all(1, &lines[..size]);
@@ -68,8 +43,7 @@ fn judge_file(fd: i32) {
 
 // Why a file that was opened cannot be read, as a folder cannot.
 fn unreadable(file: &mut File) -> Option<Error> {
-    let mut none = [0u8; 1];
-    file.read(&mut none[..0]).err()
+    file.read(&mut []).err()
 }
 
 // Opens a file to be read. A path is text, so that a name of other bytes is refused.
@@ -97,7 +71,8 @@ fn complain(alloc: Global, name: &[u8], why: Error) -> Result<(), AllocError>
     requires { length name.now ≤ 4096 }
 {
     let said = format!(in alloc; "{why}")?;
-    let mut line = line_room();
+    // this program's name and that of a file
+    let mut line = [0; 4103];
     text::put(b"judge: ", &mut line, 0);
     text::put(name, &mut line, 7);
     let size = 7 + name.len();

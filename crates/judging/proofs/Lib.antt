@@ -1,4 +1,3 @@
-pub mod Steps
 pub mod Judges
 pub mod Sizes
 pub mod Reports

@@ -1,5 +1,6 @@
 -- Where in a cadence a packet may stand: for each place at which the fitting may have begun, the place that comes next. Places count from 0, and 40 is none.
-use Rattle.std.specs.Prelude.{ℕ, zero, suc, List, [], ◌∷◌, map, Bool, true, false, cond, ◌||◌, get_or, ltb, eqb}
+use Rattle.std.specs.Prelude.{ℕ, zero, suc, List, [], ◌∷◌, map, Bool, true, false, cond, get_or, ltb, eqb}
+use Rattle.std.specs.List.{list_any}
 use Rattle.rates.specs.Cadence.{cadence, place_after}
 use Rattle.judging.specs.declared.Fit.{Fit}
 
@@ -16,8 +17,7 @@ unfoldable pub place_fitted : ℕ → ℕ → ℕ → ℕ
 place_fitted rate bytes place = cond (eqb (get_or (cadence rate) place 0) bytes) (place_after rate place) 40
 
 unfoldable pub any_place : List ℕ → Bool
-any_place [] = false
-any_place (p ∷ ps) = ltb p 40 || any_place ps
+any_place places = list_any (λ p. ltb p 40) places
 
 -- a packet with audio: "the fitting begins anew with that packet" where it fits no place that was left
 unfoldable pub fit_in : ℕ → ℕ → List ℕ → Fit

@@ -59,35 +59,26 @@ pub fn fresh() -> Known
     }
 }
 
+#[tactic(auto, unfolding(crate::specs::Judge::counter_wrong))]
 fn counter_wrong(k: Known, counter: u8) -> bool
     ensures { result ≡ counter_wrong k counter }
 {
-    if !k.accepted {
-        return false;
-    }
-    counter as u32 != (k.counter as u32 + 1) % 256
+    k.accepted && counter as u32 != (k.counter as u32 + 1) % 256
 }
 
+#[tactic(auto, unfolding(crate::specs::Judge::rate_wrong))]
 fn rate_wrong(k: Known, rate: u8) -> bool
     ensures { result ≡ rate_wrong k rate }
 {
-    if !k.accepted {
-        return false;
-    }
-    rate != k.rate
+    k.accepted && rate != k.rate
 }
 
 // Of a packet with so many fingerprints.
+#[tactic(auto, unfolding(crate::specs::Judge::count_wrong))]
 fn count_wrong(k: Known, count: u8) -> bool
     ensures { result ≡ count_wrong k count }
 {
-    if count == 0 {
-        return false;
-    }
-    if k.count == 0 {
-        return false;
-    }
-    count != k.count
+    0 < count && 0 < k.count && count != k.count
 }
 
 // The places before a packet of this rate: all of them where the rate differs.
@@ -104,9 +95,7 @@ fn places_before(k: Known, rate: u8) -> [u8; 40]
 fn bytes_carried(c: Contents) -> u8
     ensures { result ≡ carried c }
 {
-    let prints = c.prints;
-    let first = prints[0];
-    first.size
+    c.prints[0].size
 }
 
 // A packet without audio leaves the places as they are.
@@ -135,6 +124,7 @@ fn judge_contents(k: Known, c: Contents) -> Judged
     ensures { result ≡ judged_with k c }
 {
     let fit = fit_contents(k, c);
+    // a variable, since no array field is covered that is stored straight from another
     let places = fit.places;
     Judged {
         faults: Faults {
@@ -160,11 +150,10 @@ pub fn judge(k: Known, words: &[u8]) -> Judged
 {
     let mut bytes = [0u8; 255];
     let done = packet::read_packet(words, &mut bytes);
-    let refused = done.number;
-    if refused != 0 {
+    if done.number != 0 {
         return Judged {
             faults: Faults {
-                refused,
+                refused: done.number,
                 counter: false,
                 rate: false,
                 count: false,
@@ -173,7 +162,6 @@ pub fn judge(k: Known, words: &[u8]) -> Judged
             known: k,
         };
     }
-    let size = done.written;
-    let read = container::read_container(&bytes[..size]);
+    let read = container::read_container(&bytes[..done.written]);
     judge_contents(k, read.contents)
 }

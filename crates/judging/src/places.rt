@@ -25,27 +25,18 @@ fn fitted(rate: u8, bytes: u8, places: [u8; 40]) -> [u8; 40]
     ensures { result ≡ map (place_fitted rate bytes) places }
 {
     let mut next = places;
-    let mut i = 0;
-    while i < 40 {
-        let place = next[i];
-        next[i] = place_fitted(rate, bytes, place);
-        i += 1;
+    for place in &mut next {
+        *place = place_fitted(rate, bytes, *place);
     }
     next
 }
 
 // Whether some place is left.
+#[tactic(auto, unfolding(crate::specs::Places::any_place))]
 fn any_place(places: [u8; 40]) -> bool
     ensures { result ≡ any_place places }
 {
-    let mut i = 0;
-    while i < 40 {
-        if places[i] < 40 {
-            return true;
-        }
-        i += 1;
-    }
-    false
+    places.iter().any(|&place| place < 40)
 }
 
 // A packet of so many bytes a fingerprint, at the places left: where it fits none the fitting begins anew with it.

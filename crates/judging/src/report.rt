@@ -20,10 +20,9 @@ pub struct Report {
 pub fn open() -> Report
     ensures { (result ≡ fresh_report) × Within result }
 {
-    let known = crate::fresh();
     Report {
         number: 0,
-        known,
+        known: crate::fresh(),
         packets: 0,
         size: 0,
     }
@@ -83,31 +82,20 @@ pub fn field(r: Report, bytes: &[u8], out: &mut [u8]) -> Report
     ensures value { (result ≡ field_of r bytes.now) × (out.new ≡ field_out r bytes.now out.old) }
     ensures within { Within r → Within result }
 {
-    if r.number != 0 {
-        return r;
-    }
-    if bytes.len() == 0 {
+    if r.number != 0 || bytes.len() == 0 {
         return r;
     }
     let number = field_number(r.packets, bytes);
-    let known = r.known;
     if number != 0 {
-        return Report {
-            number,
-            known,
-            packets: r.packets,
-            size: r.size,
-        };
+        return Report { number, ..r };
     }
     let end = 3 + records::pair_at(bytes, 1);
-    let judged = crate::judge(known, &bytes[3..end]);
-    let faults = judged.faults;
-    let known = judged.known;
+    let judged = crate::judge(r.known, &bytes[3..end]);
     let packets = r.packets + 1;
-    let size = put_faults(packets as u64, faults, out, r.size);
+    let size = put_faults(packets as u64, judged.faults, out, r.size);
     Report {
         number: 0,
-        known,
+        known: judged.known,
         packets,
         size,
     }

@@ -15,17 +15,11 @@ pub mod tool;
 fn starts_field(rest: &[u8]) -> bool
     ensures { result ≡ acceptable rest.now }
 {
-    if rest.len() < 3 {
-        return false;
-    }
-    if rest[0] != 0x01 {
+    if rest.len() < 3 || rest[0] != 0x01 {
         return false;
     }
     let end = records::pair_at(rest, 1) + 3;
-    if rest.len() < end {
-        return false;
-    }
-    container::container_number(&rest[3..end]) == 0
+    end <= rest.len() && container::container_number(&rest[3..end]) == 0
 }
 
 // The first place from a place on that starts such a field, or the recording's end.
@@ -33,14 +27,12 @@ pub(crate) fn next_field(recording: &[u8], from: usize) -> usize
     requires { from ≤ length recording.now }
     ensures { result ≡ from + gap (drop from recording.now) }
 {
-    let mut at = from;
-    while at < recording.len() {
+    for at in from..recording.len() {
         if starts_field(&recording[at..]) {
             return at;
         }
-        at += 1;
     }
-    at
+    recording.len()
 }
 
 // Where the field at a place ends.
@@ -57,10 +49,7 @@ fn fields_end(recording: &[u8], at: usize) -> usize
     ensures { Stretch recording.now at result × (acceptable (drop result recording.now) ≡ false) }
 {
     let mut end = field_end(recording, at);
-    while end < recording.len() {
-        if !starts_field(&recording[end..]) {
-            return end;
-        }
+    while end < recording.len() && starts_field(&recording[end..]) {
         end = field_end(recording, end);
     }
     end
@@ -99,11 +88,8 @@ fn has_room(recording: &[u8], from: usize, size: usize, room: usize) -> bool
     requires { Before recording.now from size }
     ensures { result ≡ leb (size + length (mended (drop from recording.now))) room }
 {
-    if size + (recording.len() - from) <= room {
-        return true;
-    }
-    let mut none = [0u8; 1];
-    size + put_kept(recording, from, &mut none[..0], size) <= room
+    size + (recording.len() - from) <= room
+        || size + put_kept(recording, from, &mut [], size) <= room
 }
 
 // Mend: 51, 50, 12. The first fields that follow one another are found once, for the room and for the copy.

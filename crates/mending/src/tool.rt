@@ -36,6 +36,7 @@ fn put_report(recording: &[u8], first: usize, out: &mut [u8]) -> usize
     let mut start = 0;
     let mut at = first;
     let mut p = 0;
+    // a scan from field to field: the place jumps by what stands there
     while at < recording.len() {
         p = put_run(start, at, out, p);
         start = field_end(recording, at);

@@ -2,11 +2,12 @@
 use Prim.Native.Nat.{ℕ, zero, suc, ◌+◌, ◌*◌, ◌/◌, ◌%◌, ◌≤◌, ◌<◌}
 use mathlib.Core.Path.{◌≡◌, refl, sym, ap, ap₂, ◌∙◌}
 use mathlib.Core.List.{List, [], ◌∷◌, ◌++◌, map}
-use mathlib.Core.Bool.{Bool, true, false}
+use mathlib.Core.Bool.{Bool, ◌&&◌}
 use native.Mathlib.Omega.{arith}
 use native.Mathlib.Numerals.{add-one}
 use lib.ListN.{length, get_or, take, drop, set, length-append, length-map, drop_of_length-le}
 use lib.Seq.{sets, drop-cons, take_at}
+use Rattle.std.specs.List.{list_all, range_with_len}
 use Rattle.laws.specs.Calls.{over}
 use Rattle.laws.proofs.Lists.{sets_then, sets_over}
 use Rattle.packet.specs.Words.{word_of, low, sum9, check_word, bytes_of, words_of}
@@ -68,18 +69,17 @@ words_part s a n i j p q = rw (p, q) (words_take n (drop (2 * a) s) ∙ ap (take
 
 -- ---- a scan of words, one word at a time
 
-module _ (test : ℕ → Bool) (ws : List ℕ) (i : ℕ) where
-  pub every_next : i < length ws → test (get_or ws i 0) ≡ true → every test (drop i ws) ≡ every test (drop (i + 1) ws)
-  unfolding every
-  every_next h e = rw (add-one, drop-cons ws i 0 h, e)
+-- the words from place a on, each by its place
+every_from : (test : ℕ → Bool) (ws : List ℕ) (a n : ℕ) → a + n ≡ length ws → list_all (λ (i : ℕ). test (get_or ws i 0)) (range_with_len a n) ≡ every test (drop a ws)
+unfolding every
+every_from test ws a zero e = rw (drop_of_length-le ws {i = a} (omega arith))
+every_from test ws a (suc n) e =
+    let h : a < length ws = omega arith in
+    let next : a + 1 ≡ suc a = omega arith in
+    rw (drop-cons ws a 0 h) (ap (λ (b : Bool). test (get_or ws a 0) && b) (every_from test ws (a + 1) n (omega arith) ∙ ap (λ (k : ℕ). every test (drop k ws)) next))
 
-  pub every_fails : i < length ws → test (get_or ws i 0) ≡ false → every test (drop i ws) ≡ false
-  unfolding every
-  every_fails h e = rw (drop-cons ws i 0 h, e)
-
-  pub every_end : length ws ≤ i → every test (drop i ws) ≡ true
-  unfolding every
-  every_end h = rw (drop_of_length-le ws h)
+pub every_place : (test : ℕ → Bool) (ws : List ℕ) (n : ℕ) → n ≡ length ws → list_all (λ (i : ℕ). test (get_or ws i 0)) (range_with_len 0 n) ≡ every test ws
+every_place test ws n e = every_from test ws 0 n (omega arith)
 
 module _ (ws : List ℕ) (i : ℕ) where
   pub sum9_next : i < length ws → sum9 (drop i ws) ≡ get_or ws i 0 % 512 + sum9 (drop (i + 1) ws)

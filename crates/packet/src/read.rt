@@ -10,14 +10,7 @@ use crate::words::{check_of, word_at, word_of};
 fn ten_bits(words: &[u8]) -> bool
     ensures { result ≡ every ten_bits (words_of words.now) }
 {
-    let mut i = 0;
-    while i < words.len() / 2 {
-        if 0x3ff < word_at(words, i) {
-            return false;
-        }
-        i += 1;
-    }
-    true
+    (0..words.len() / 2).all(|i| word_at(words, i) <= 0x3ff)
 }
 
 fn parity_right(w: u16) -> bool
@@ -30,37 +23,21 @@ fn parity_right(w: u16) -> bool
 fn parities_right(words: &[u8]) -> bool
     ensures { result ≡ every parity_right (words_of words.now) }
 {
-    let mut i = 0;
-    while i < words.len() / 2 {
-        if !parity_right(word_at(words, i)) {
-            return false;
-        }
-        i += 1;
-    }
-    true
+    (0..words.len() / 2).all(|i| parity_right(word_at(words, i)))
 }
 
 fn start_right(words: &[u8]) -> bool
     requires { 14 ≤ length words.now }
     ensures { result ≡ start_right (words_of words.now) }
 {
-    if word_at(words, 0) != 0x000 {
-        return false;
-    }
-    if word_at(words, 1) != 0x3ff {
-        return false;
-    }
-    word_at(words, 2) == 0x3ff
+    word_at(words, 0) == 0x000 && word_at(words, 1) == 0x3ff && word_at(words, 2) == 0x3ff
 }
 
 fn names_right(words: &[u8]) -> bool
     requires { 14 ≤ length words.now }
     ensures { result ≡ names_right (words_of words.now) }
 {
-    if word_at(words, 3) != 0x241 {
-        return false;
-    }
-    word_at(words, 4) == 0x10b
+    word_at(words, 3) == 0x241 && word_at(words, 4) == 0x10b
 }
 
 // The count: bits 7-0 of the sixth word.
@@ -68,7 +45,7 @@ pub(crate) fn count_of(words: &[u8]) -> usize
     requires { 14 ≤ length words.now }
     ensures { result ≡ count_of (words_of words.now) }
 {
-    (word_at(words, 5) % 256) as usize
+    usize::from(word_at(words, 5) % 256)
 }
 
 // The first of 34 to 36 that applies, or 0.
@@ -76,11 +53,8 @@ fn body_number(words: &[u8]) -> u8
     requires { 14 ≤ length words.now }
     ensures { result ≡ body_number (words_of words.now) }
 {
-    if !parity_right(word_at(words, 5)) {
-        return 34;
-    }
     let n = count_of(words);
-    if words.len() / 2 != n + 7 {
+    if !parity_right(word_at(words, 5)) || words.len() / 2 != n + 7 {
         return 34;
     }
     let end = 12 + 2 * n;
@@ -97,10 +71,7 @@ fn body_number(words: &[u8]) -> u8
 pub(crate) fn frame_number(words: &[u8]) -> u8
     ensures { result ≡ frame_number words.now }
 {
-    if words.len() % 2 != 0 {
-        return 30;
-    }
-    if !ten_bits(words) {
+    if words.len() % 2 != 0 || !ten_bits(words) {
         return 30;
     }
     if words.len() / 2 < 7 {
@@ -120,9 +91,7 @@ pub(crate) fn low_bytes(words: &[u8], out: &mut [u8])
     requires { length words.now / 2 ≤ length out.old }
     ensures { out.new ≡ sets out.old 0 (map low (words_of words.now)) }
 {
-    let mut i = 0;
-    while i < words.len() / 2 {
+    for i in 0..words.len() / 2 {
         out[i] = (word_at(words, i) % 256) as u8;
-        i += 1;
     }
 }

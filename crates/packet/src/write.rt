@@ -10,8 +10,7 @@ use crate::words::{check_of, word_of};
 fn put_word(w: u16, out: &mut [u8], at: usize)
     ensures { out.new ≡ sets out.old at (bytes_of (w ∷ [])) }
 {
-    let bytes = [(w % 256) as u8, (w / 256) as u8];
-    laws::copy_at(&bytes, out, at);
+    laws::copy_at(&w.to_le_bytes(), out, at);
 }
 
 // The words before the user words, of which there are n.
@@ -31,10 +30,8 @@ fn put_users(container: &[u8], out: &mut [u8])
     requires { length container.now ≤ 255 }
     ensures { out.new ≡ sets out.old 12 (bytes_of (map word_of container.now)) }
 {
-    let mut i = 0;
-    while i < container.len() {
-        put_word(word_of(container[i]), out, 12 + 2 * i);
-        i += 1;
+    for (i, &byte) in container.iter().enumerate() {
+        put_word(word_of(byte), out, 12 + 2 * i);
     }
 }
 

@@ -44,19 +44,14 @@ fn counted(field: &[u8; 960], older: &[u8; 960]) -> Counts
     requires { (length field.now ≡ 960) × (length older.now ≡ 960) }
     ensures { (result.brighter ≡ brighter_in field.now older.now) × (result.darker ≡ darker_in field.now older.now) }
 {
-    let mut brighter: u16 = 0;
-    let mut darker: u16 = 0;
-    let mut i: usize = 0;
-    while i < 960 {
+    let mut brighter = 0;
+    let mut darker = 0;
+    for i in 0..960 {
         let d = difference(field[i], older[i]);
         brighter = with_one(brighter, is_brighter(d));
         darker = with_one(darker, is_darker(d));
-        i += 1;
     }
-    Counts {
-        brighter: brighter,
-        darker: darker,
-    }
+    Counts { brighter, darker }
 }
 
 // What the end of the field tells, with held fields before it.
@@ -76,11 +71,9 @@ pub(crate) fn told(held: u8, field: &[u8; 960], older: &[u8; 960]) -> Told
 }
 
 // How many fields are held once one more has ended: two are enough.
+#[tactic(auto, unfolding(crate::specs::Fields::held_after))]
 pub(crate) fn held_after(held: u8) -> u8
     ensures { result ≡ held_after held }
 {
-    if held < 2 {
-        return held + 1;
-    }
-    2
+    if held < 2 { held + 1 } else { 2 }
 }

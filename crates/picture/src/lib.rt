@@ -74,8 +74,8 @@ fn empty_with(ready: bool, shown: Video) -> Picture
         frame: Frame {
             field: 1,
             first: Video::Absent,
-            ready: ready,
-            shown: shown,
+            ready,
+            shown,
         },
     }
 }
@@ -88,101 +88,90 @@ pub fn fresh() -> Picture
 }
 
 // Whether a frame waits to be packed.
+#[tactic(auto, unfolding(crate::specs::Pictures::is_ready))]
 pub fn is_ready(p: Picture) -> bool
     ensures { result ≡ is_ready p }
 {
-    let f = p.frame;
-    f.ready
+    p.frame.ready
 }
 
 // A video restart: all is forgotten but the frame that waits to be packed.
+#[tactic(auto, unfolding(crate::specs::Pictures::restarted))]
 pub fn restart(p: Picture) -> Picture
     ensures { result ≡ restarted p }
 {
-    let f = p.frame;
-    let shown = f.shown;
-    empty_with(f.ready, shown)
+    empty_with(p.frame.ready, p.frame.shown)
 }
 
 // The frame that waits is handed out, and waits no longer.
 pub fn hand_out(p: Picture) -> Handed
     ensures { (result ≡ handed_out p) × (video_values result.shown ≡ handed_values p) }
 {
-    let f = p.frame;
-    if f.ready {
-        let first = f.first;
-        let shown = f.shown;
-        let packed = Frame {
-            field: f.field,
-            first: first,
+    if p.frame.ready {
+        let frame = Frame {
             ready: false,
             shown: Video::Absent,
+            ..p.frame
         };
-        let mut q = p;
-        q.frame = packed;
-        return Handed {
-            picture: q,
-            shown: shown,
-        };
-    }
-    Handed {
-        picture: p,
-        shown: Video::Absent,
+        // A changed copy: with the literal `Picture { frame, ..p }` here and its like in `take`, a call of Line took 1.16 to 1.28 times as long.
+        let mut picture = p;
+        picture.frame = frame;
+        Handed {
+            picture,
+            shown: p.frame.shown,
+        }
+    } else {
+        Handed {
+            picture: p,
+            shown: Video::Absent,
+        }
     }
 }
 
 // What a frame of one field shows.
+#[tactic(auto, unfolding(crate::specs::Pictures::shown_one))]
 fn shown_one(told: Told) -> Video
     ensures { result ≡ shown_one told }
 {
     match told {
-        Told::Open => Video::Absent,
-        Told::Nothing => Video::Absent,
+        Told::Open | Told::Nothing => Video::Absent,
         Told::Value { fingerprint, .. } => Video::One(fingerprint),
     }
 }
 
 // What a frame of two fields shows, of which the first shows this and the second told that. No field shows two values.
+#[tactic(auto, unfolding(crate::specs::Pictures::shown_two))]
 fn shown_two(first: Video, second: Told) -> Video
     ensures { result ≡ shown_two first second }
 {
-    match first {
-        Video::Absent => Video::Absent,
-        Video::One(a) => match second {
-            Told::Open => Video::Absent,
-            Told::Nothing => Video::Absent,
-            Told::Value { fingerprint: b, .. } => Video::Two(a, b),
-        },
-        Video::Two(a, b) => Video::Absent,
+    match (first, second) {
+        (Video::One(a), Told::Value { fingerprint: b, .. }) => Video::Two(a, b),
+        _ => Video::Absent,
     }
 }
 
 // The frame once the field being filled has ended and told. The end of the last field makes it ready; two: whether a frame has two fields.
+#[tactic(auto, unfolding(crate::specs::Pictures::frame_after))]
 fn frame_after(f: Frame, told: Told, two: bool) -> Frame
     ensures { result ≡ frame_after f told two }
 {
-    let first = f.first;
-    if two {
-        if f.field == 1 {
-            return Frame {
-                field: 2,
-                first: shown_one(told),
-                ready: false,
-                shown: Video::Absent,
-            };
-        }
+    if two && f.field == 1 {
         return Frame {
-            field: 1,
-            first: Video::Absent,
-            ready: true,
-            shown: shown_two(first, told),
+            field: 2,
+            first: shown_one(told),
+            ready: false,
+            shown: Video::Absent,
         };
     }
     Frame {
         field: 1,
         first: Video::Absent,
         ready: true,
-        shown: shown_one(told),
+        shown: if two {
+            shown_two(f.first, told)
+        } else {
+            shown_one(told)
+        },
     }
 }
 
@@ -190,21 +179,19 @@ fn frame_after(f: Frame, told: Told, two: bool) -> Frame
 fn end_field(p: Picture, filling: [u8; 960], two: bool) -> Scanned
     ensures { result ≡ field_ended p filling two }
 {
-    let older = p.older;
     let newer = p.newer;
-    let f = p.frame;
-    let told = compare::told(p.held, &filling, &older);
-    let frame = frame_after(f, told, two);
+    let told = compare::told(p.held, &filling, &p.older);
+    let frame = frame_after(p.frame, told, two);
     Scanned {
         number: 0,
-        told: told,
+        told,
         picture: Picture {
             older: newer,
             newer: filling,
-            filling: filling,
+            filling,
             row: 0,
             held: compare::held_after(p.held),
-            frame: frame,
+            frame,
         },
     }
 }
@@ -214,19 +201,18 @@ fn take(p: Picture, format: u8, line: &[u8]) -> Scanned
     requires { (p.row < 16) × ((format < 8) × (length line.now ≡ 2 * (row_of format).width)) }
     ensures { result ≡ taken p format line.now }
 {
-    let row = p.row;
-    let from = row * 60;
-    let to = from + 60;
+    let from = p.row * 60;
     let mut filling = p.filling;
-    sampling::sample_line(format, line, &mut filling[from..to]);
-    if row < 15 {
-        let mut q = p;
-        q.filling = filling;
-        q.row = row + 1;
+    sampling::sample_line(format, line, &mut filling[from..from + 60]);
+    if p.row < 15 {
+        // A changed copy, as in `hand_out`.
+        let mut picture = p;
+        picture.filling = filling;
+        picture.row = p.row + 1;
         return Scanned {
             number: 0,
             told: Told::Open,
-            picture: q,
+            picture,
         };
     }
     let r = sampling::row_of(format);
@@ -238,8 +224,7 @@ pub fn line(p: Picture, format: u8, number: usize, line: &[u8]) -> Scanned
     ensures { (result ≡ line_of p format number line.now) × (says_of result.number result.told ≡ line_says p format number line.now) }
 {
     let f = p.frame;
-    let row = p.row;
-    let refusal = order::judge(format, f.field, row, f.ready, number, line.len());
+    let refusal = order::judge(format, f.field, p.row, f.ready, number, line.len());
     if refusal != 0 {
         return Scanned {
             number: refusal,
@@ -247,7 +232,7 @@ pub fn line(p: Picture, format: u8, number: usize, line: &[u8]) -> Scanned
             picture: p,
         };
     }
-    if number != order::due_line(sampling::row_of(format), f.field, row) {
+    if number != order::due_line(sampling::row_of(format), f.field, p.row) {
         return Scanned {
             number: 0,
             told: Told::Open,
@@ -261,8 +246,5 @@ pub fn line(p: Picture, format: u8, number: usize, line: &[u8]) -> Scanned
 pub fn is_monitored(format: u8, number: usize) -> bool
     ensures { result ≡ is_monitored format number }
 {
-    if 8 <= format {
-        return false;
-    }
-    order::in_either_field(sampling::row_of(format), number)
+    format < 8 && order::in_either_field(sampling::row_of(format), number)
 }

@@ -13,10 +13,7 @@ fn is_among(first: usize, step: usize, number: usize) -> bool
         return false;
     }
     let d = number - first;
-    if d % step != 0 {
-        return false;
-    }
-    d / step < 16
+    d % step == 0 && d / step < 16
 }
 
 // Whether a line is monitored, in either field.
@@ -24,13 +21,7 @@ pub(crate) fn in_either_field(r: Row, number: usize) -> bool
     requires { 0 < r.vstep }
     ensures { result ≡ monitored r number }
 {
-    if is_among(r.vstart1, r.vstep, number) {
-        return true;
-    }
-    if r.vstart2 == 0 {
-        return false;
-    }
-    is_among(r.vstart2, r.vstep, number)
+    is_among(r.vstart1, r.vstep, number) || r.vstart2 != 0 && is_among(r.vstart2, r.vstep, number)
 }
 
 // The number of the line that is due: row `row` of field 1 or 2.
@@ -48,37 +39,26 @@ fn in_order(r: Row, due: usize, ready: bool, number: usize) -> u8
     ensures { result ≡ order_number r due ready number }
 {
     if number != due {
-        if in_either_field(r, number) {
-            return 4;
-        }
-        return 0;
+        if in_either_field(r, number) { 4 } else { 0 }
+    } else if ready && number == r.vstart1 {
+        5
+    } else {
+        0
     }
-    if number == r.vstart1 {
-        if ready {
-            return 5;
-        }
-    }
-    0
 }
 
 // The number of the refusal, or 0. A row that no run makes gives 1, as an empty session does.
 pub(crate) fn judge(format: u8, field: u8, row: usize, ready: bool, number: usize, len: usize) -> u8
     ensures { result ≡ judged_number format field row ready number len }
 {
-    if 8 <= format {
-        return 1;
-    }
-    if 16 <= row {
+    if 8 <= format || 16 <= row {
         return 1;
     }
     let r = sampling::row_of(format);
     if len != 2 * r.width {
         return 2;
     }
-    if number < 1 {
-        return 3;
-    }
-    if r.lines < number {
+    if number < 1 || r.lines < number {
         return 3;
     }
     in_order(r, due_line(r, field, row), ready, number)

@@ -1,57 +1,23 @@
 -- Laws of the cadences: the rows as the code holds them, and one test over the whole table.
 use Prim.Native.Nat.{ℕ, zero, suc, ◌+◌, ◌-◌, ◌%◌, ◌≤◌, ◌<◌}
 use mathlib.Core.Path.{◌≡◌, refl, sym, ap, subst, ◌∙◌}
-use mathlib.Core.Bool.{Bool, true, false, cond, ◌&&◌, beq, and-false, false≢true}
+use mathlib.Core.Bool.{Bool, true, cond, ◌&&◌}
 use mathlib.Core.Logic.{◌↔◌}
-use mathlib.Core.List.{List, [], ◌∷◌, map}
+use mathlib.Core.List.{List, [], ◌∷◌}
 use native.Mathlib.Omega.{arith}
 use native.Mathlib.Nat.{le_of_suc-le-suc, not-suc-le-zero, mod-lt, mod-eq_of_lt, mod_self, mod-add-mod}
 use native.Mathlib.Decide.{dec_lt}
-use lib.Dec.{leb, ltb}
-use lib.ListN.{length, get_or, drop, replicate, get_or-eq_default}
+use lib.Dec.{leb, ltb, eqb}
+use lib.ListN.{length, get_or, drop}
 use lib.Seq.{get_or-drop}
-use borrow.Author.Tests.{leb-true, lt-leb, lt-ltb, le-ltb}
-use Rattle.laws.specs.Sums.{sum}
-use Rattle.laws.proofs.Lists.{get_d_padded, stands_in}
+use borrow.Author.Tests.{leb-true, lt-ltb, le-ltb}
+use Rattle.std.specs.List.{list_any}
+use Rattle.std.proofs.lemmas.Bool.Decides.{nat_tests}
+use Rattle.laws.proofs.Lists.{stands_in}
 use Rattle.laws.proofs.Tests.{both, below, at_below}
 use Rattle.rates.specs.Rates.{rate_listed}
-use Rattle.rates.specs.Cadence.{cadences, cadence, count_occurs, frames, from, held, row_held, cycles, cycle_bytes, sums, place_after}
+use Rattle.rates.specs.Cadence.{cadences, cadence, count_occurs, frames, from, place_after}
 use Rattle.laws.specs.Lists.{is_one_of, StandsIn}
-
--- within a list the default does not matter
-get_d_within : (ls : List (List ℕ)) (k : ℕ) (y z : List ℕ) → k < length ls → get_or ls k y ≡ get_or ls k z
-get_d_within [] k y z h = absurd (not-suc-le-zero h)
-get_d_within (l ∷ ls) zero y z h = refl
-get_d_within (l ∷ ls) (suc k) y z h = get_d_within ls k y z (le_of_suc-le-suc h)
-
-sum_at : (ls : List (List ℕ)) (k : ℕ) (z : List ℕ) → k < length ls → sum (get_or ls k z) ≡ get_or (map sum ls) k 0
-sum_at [] k z h = absurd (not-suc-le-zero h)
-sum_at (l ∷ ls) zero z h = refl
-sum_at (l ∷ ls) (suc k) z h = sum_at ls k z (le_of_suc-le-suc h)
-
--- the rows as they are held, and what each makes in one cycle
-pub row_none : (code : ℕ) → 12 ≤ code → (replicate 40 0 ≡ row_held code) × (sum (replicate 40 0) ≡ cycle_bytes code)
-unfolding row_held cycle_bytes cycles cadences sum
-row_none code h = (sym (get_or-eq_default (map held cadences) (replicate 40 0) h), sym (get_or-eq_default cycles 0 h))
-
-pub row_held_lem : (code : ℕ) (z : List ℕ) → code < 12 → (get_or (map held cadences) code z ≡ row_held code) × (sum (get_or (map held cadences) code z) ≡ cycle_bytes code)
-unfolding row_held cycle_bytes cadences
-row_held_lem code z h = (get_d_within (map held cadences) code z (replicate 40 0) h, sum_at (map held cadences) code z h ∙ ap (λ (l : List ℕ). get_or l code 0) sums)
-
-pub at_row : (ls : List (List ℕ)) (k i : ℕ) (z : List ℕ) → k < length ls → get_or (get_or (map held ls) k z) i 0 ≡ get_or (get_or ls k []) i 0
-unfolding held
-at_row [] k i z h = absurd (not-suc-le-zero h)
-at_row (l ∷ ls) zero i z h = get_d_padded l (40 - length l) i
-at_row (l ∷ ls) (suc k) i z h = at_row ls k i z (le_of_suc-le-suc h)
-
-pub at_length : (ls : List (List ℕ)) (k : ℕ) → get_or (map length ls) k 0 ≡ length (get_or ls k [])
-at_length [] k = refl
-at_length (l ∷ ls) zero = refl
-at_length (l ∷ ls) (suc k) = at_length ls k
-
-pub no_cadence : (code : ℕ) → 12 ≤ code → cadence code ≡ []
-unfolding cadence cadences
-no_cadence code h = get_or-eq_default cadences [] h
 
 -- one test: each entry is 1 to 5, no row is longer than 40, and from code 2 on none is empty
 abbrev fitting : List ℕ → Bool
@@ -83,9 +49,6 @@ cadence_fits code = row_fits cadences refl code
 -- no cadence has more than 40 frames
 pub at_most_40 : (code : ℕ) → length (cadence code) ≤ 40
 at_most_40 code = (cadence_fits code).0
-
-pub past_cadence : (code place : ℕ) → 40 ≤ place → ◌≡◌ {A = ℕ} 0 (get_or (cadence code) place 0)
-past_cadence code place h = sym (get_or-eq_default (cadence code) 0 (omega (arith, at_most_40 code)))
 
 -- each frame of a cadence asks for 1 to 5 bytes
 pub due_1_to_5 : (code place : ℕ) → place < length (cadence code) → (1 ≤ get_or (cadence code) place 0) × (get_or (cadence code) place 0 ≤ 5)
@@ -151,47 +114,11 @@ occurs_1_to_5 code count e =
     let s = (occurs_is code count).0 e in
     subst (λ (n : ℕ). (1 ≤ n) × (n ≤ 5)) s.there (due_1_to_5 code s.place s.within)
 
--- each row's fewest and most, as the code has them
-abbrev fewest : List ℕ
-fewest = 1 ∷ 1 ∷ 4 ∷ 5 ∷ 2 ∷ 4 ∷ 3 ∷ 4 ∷ 2 ∷ 2 ∷ 1 ∷ 2 ∷ []
+same_equal : (x n : ℕ) → eqb x n ≡ eqb n x
+same_equal x n = grind (arith, nat_tests)
 
-abbrev most : List ℕ
-most = 0 ∷ 0 ∷ 5 ∷ 5 ∷ 3 ∷ 5 ∷ 4 ∷ 4 ∷ 3 ∷ 3 ∷ 2 ∷ 2 ∷ []
-
-abbrev between : ℕ → ℕ → Bool
-between code count = leb (get_or fewest code 0) count && leb count (get_or most code 0)
-
--- one test: of 0 to 5 a row has just the counts from its fewest to its most, and its most is at most 5
-abbrev ends_right : ℕ → Bool
-ends_right code = leb (get_or most code 0) 5 && below (λ n. beq (count_occurs code n) (between code n)) 6
-
-all_right : below ends_right 12 ≡ true
-unfolding below count_occurs cadence cadences frames from is_one_of
-all_right = refl
-
-beq_true : (s t : Bool) → beq s t ≡ true → s ≡ t
-beq_true true true e = refl
-beq_true true false e = absurd (false≢true e)
-beq_true false true e = absurd (false≢true e)
-beq_true false false e = refl
-
--- above 5 neither the row nor its ends have a count
-none_above : (code count : ℕ) → leb (get_or most code 0) 5 ≡ true → 5 < count → count_occurs code count ≡ between code count
-none_above code count e h = go (count_occurs code count) refl
-  where
-    go : (t : Bool) → count_occurs code count ≡ t → count_occurs code count ≡ between code count
-    go true q = absurd (let z : ⊥ = omega (arith, (occurs_1_to_5 code count q).1) in z)
-    go false q = q ∙ rw (lt-leb count (get_or most code 0) (omega (arith, leb-true (get_or most code 0) 5 e))) (sym (and-false (leb (get_or fewest code 0) count)))
-
-pub occurs_between : (code count : ℕ) → code < 12 → count_occurs code count ≡ between code count
-occurs_between code count h =
-    let e = both (leb (get_or most code 0) 5) _ (at_below ends_right 12 code all_right h) in
-    go (dec_lt count 6) e
-  where
-    go : Dec (count < 6) → (leb (get_or most code 0) 5 ≡ true) × (below (λ n. beq (count_occurs code n) (between code n)) 6 ≡ true) → count_occurs code count ≡ between code count
-    go (yes l) e = beq_true _ _ (at_below (λ n. beq (count_occurs code n) (between code n)) 6 count e.1 l)
-    go (no f) e = none_above code count e.0 (omega arith)
-
-pub none_occurs : (code count : ℕ) → 12 ≤ code → count_occurs code count ≡ false
-unfolding count_occurs is_one_of
-none_occurs code count h = rw (no_cadence code h)
+-- what `contains` tells
+pub one_of_any : (n : ℕ) (l : List ℕ) → list_any (λ x. eqb x n) l ≡ is_one_of n l
+unfolding is_one_of
+one_of_any n [] = refl
+one_of_any n (x ∷ l) = rw (same_equal x n, one_of_any n l)

@@ -43,12 +43,9 @@ place_after code place = cond (ltb (place + 1) (length (cadence code))) (place +
 
 -- ---- what holds of every row
 
--- a row as the code holds it: 40 places, with zeros after the cadence
+-- a row of 40 places, with zeros after the cadence
 unfoldable pub held : List ℕ → List ℕ
 held l = l ++ replicate (40 - length l) 0
-
-unfoldable pub row_held : ℕ → List ℕ
-row_held code = get_or (map held cadences) code (replicate 40 0)
 
 -- each row's bytes in one cycle, by the rate code
 unfoldable pub cycles : List ℕ
@@ -57,10 +54,14 @@ cycles = 0 ∷ 0 ∷ 77 ∷ 5 ∷ 77 ∷ 24 ∷ 77 ∷ 4 ∷ 5 ∷ 12 ∷ 77 ∷
 unfoldable pub cycle_bytes : ℕ → ℕ
 cycle_bytes code = get_or cycles code 0
 
--- "each row's sum proved in one computed test": of the rows as they are held
+-- "each row's sum proved in one computed test": of the rows of 40 places, and of the rows as the code has them
 pub sums : map sum (map held cadences) ≡ cycles
 unfolding sum held cycles cadences frames from is_one_of
 sums = refl
+
+pub row_sums : map sum cadences ≡ cycles
+unfolding sum cycles cadences frames from is_one_of
+row_sums = refl
 
 -- frames a second, as a fraction: 23.98 is 24,000/1,001, and so its kin
 pub record Rate : Type 0 where

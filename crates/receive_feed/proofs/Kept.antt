@@ -7,6 +7,8 @@ use native.Mathlib.Omega.{arith}
 use lib.ListN.{length, take, drop}
 use lib.Seq.{sets}
 use lib.Dec.{ltb, eqb}
+use Rattle.std.specs.declared.result.Result.{Result}
+use Rattle.std.specs.declared.result.Result.TheVariants.{Ok, Err}
 use Rattle.laws.specs.Calls.{over}
 use Rattle.laws.proofs.Tests.{chosen}
 use Rattle.records.specs.declared.Record.{Record}
@@ -17,10 +19,9 @@ use Rattle.receiving.specs.declared.Asked.{Asked}
 use Rattle.receiving.specs.Slots.{container_in, is_held}
 use Rattle.receiving.specs.Numbers.{there_number, next_number}
 use Rattle.receiving.specs.Receiver.{slot_at, arrive_of, asking, next_done, asked_with, next_of, next_out}
+use Rattle.answers.specs.declared.Cause.{Cause}
 use Rattle.answers.specs.declared.Cause.TheVariants.{UnknownTag, TooLong, CutShort}
 use Rattle.answers.specs.declared.Hand.TheVariants.{Next}
-use Rattle.answers.specs.declared.Room.{Room}
-use Rattle.answers.specs.declared.Room.TheVariants.{Of, Not}
 use Rattle.answers.specs.declared.Answer.TheVariants.{Arrive, Finished}
 use Rattle.answers.specs.Lines.{untouched, fresh, Quiet}
 use Rattle.answers.specs.Rooms.{room_at}
@@ -29,8 +30,8 @@ use Rattle.answers.proofs.Rooms.{room_most, work_after}
 use Rattle.answers.proofs.Sizes.{answer_fits}
 use Rattle.answers.proofs.Sizes as answers
 use Rattle.answers.proofs.Held.{Kept, call_kept, Held, held_work, handed_in, none_held, bad_held}
-use Rattle.receive_feed.specs.declared.Answered.{Answered}
-use Rattle.receive_feed.specs.Feed.{Step, fresh_fed, arrived, arrive_fed, done_of, asked, next_in, next_fed, give_up_fed, fed, record_fed, front, step_line, line_next}
+use Rattle.receive_feed.specs.Feed.{Answered, Step, fresh_fed, arrived, arrive_fed, done_of, asked, next_in, next_fed, give_up_fed, fed, front, line_next}
+use Rattle.answers.specs.Steps.{record_fed, step_line}
 
 abbrev pub Does : Step → Answered → List ℕ → Type 0
 Does t a w = (a ≡ t.answered) × (w ≡ t.left)
@@ -46,7 +47,7 @@ next_kept r lent = call_kept (there_number (is_held (slot_at r 0))) (container_i
 
 -- it is lent the first bytes of the work buffer
 pub nexts : (r : Receiver) (lent left work : List ℕ) (room : ℕ) (a : Asked) → lent ≡ untouched room → work ≡ fresh → a ≡ next_of r (length lent) → left ≡ next_out r lent
-    → Does (next_in r (Of room)) (asked a) (left ++ drop room work)
+    → Does (next_in r (Ok room)) (asked a) (left ++ drop room work)
 unfolding next_in
 nexts r lent left work room a l w g h =
     let k : left ≡ next_out r (untouched room) = h ∙ ap (next_out r) l in
@@ -59,13 +60,13 @@ nexts r lent left work room a l w g h =
 abbrev HeldStep : Step → Type 0
 HeldStep t = Held t.answered.answer t.left
 
-next_held : (r : Receiver) (p : List ℕ) (m : Room) → room_at p 0 ≡ m → HeldStep (next_in r m)
+next_held : (r : Receiver) (p : List ℕ) (m : Result ℕ Cause) → room_at p 0 ≡ m → HeldStep (next_in r m)
 unfolding next_in asked
-next_held r p (Of room) e =
+next_held r p (Ok room) e =
     let k = subst (λ (n : ℕ). Kept (untouched room) (done_of (next_of r n)).written (next_out r (untouched room))) (untouched_size room) (next_kept r (untouched room)) in
     let q = handed_in Next (done_of (next_of r room)) room _ k in
     held_work _ _ (omega (arith, q.0, room_most p 0 room e)) q.1
-next_held r p (Not cause) e = bad_held cause
+next_held r p (Err cause) e = bad_held cause
 
 fed_held : (r : Receiver) (tag : ℕ) (p : List ℕ) → HeldStep (fed r tag p)
 unfolding fed fresh_fed arrive_fed arrived next_fed give_up_fed Quiet
@@ -87,7 +88,7 @@ front_held : (r : Receiver) (bytes : List ℕ) → HeldStep (front r bytes)
 unfolding front record_fed Quiet
 front_held r bytes = go (record_at bytes 0)
   where
-    go : (m : Record) → HeldStep (record_fed r bytes m)
+    go : (m : Record) → HeldStep (record_fed fed r bytes m)
     go (Whole tag start end) = fed_held r tag (take (end - start) (drop start bytes))
     go Cut = bad_held CutShort
     go End = none_held Finished (omega arith)

@@ -1,5 +1,5 @@
 -- What each call on a receiver answers, and the receiver that it leaves (02, A12).
-use Rattle.std.specs.Prelude.{ℕ, ◌+◌, ◌%◌, List, [], ◌∷◌, ◌++◌, cond, length, drop, get_or, set, replicate, eqb}
+use Rattle.std.specs.Prelude.{ℕ, ◌+◌, ◌%◌, List, [], ◌∷◌, ◌++◌, Option, Some, None, cond, length, drop, get_or, set, replicate, eqb}
 use Rattle.laws.specs.Calls.{done_with, out_with}
 use Rattle.laws.specs.declared.Done.{Done}
 use Rattle.container.specs.Reading.{reading}
@@ -7,16 +7,16 @@ use Rattle.receiving.specs.declared.Slot.{Slot}
 use Rattle.receiving.specs.declared.Receiver.{Receiver}
 use Rattle.receiving.specs.declared.Arrived.{Arrived}
 use Rattle.receiving.specs.declared.Asked.{Asked}
-use Rattle.receiving.specs.Slots.{empty_slot, no_slot, slot_of, container_in, is_held}
+use Rattle.receiving.specs.Slots.{slot_of, container_in, is_held}
 use Rattle.receiving.specs.Numbers.{ahead, arrive_number, next_number}
 
 -- "A receiver holds up to eight, starting at an expected counter."
 unfoldable pub fresh_of : ℕ → Receiver
-fresh_of expected = record { expected = expected; held = replicate 8 empty_slot }
+fresh_of expected = record { expected = expected; held = replicate 8 None }
 
--- what is held so far ahead of the expected one
-unfoldable pub slot_at : Receiver → ℕ → Slot
-slot_at r d = get_or r.held d no_slot
+-- what is held so far ahead of the expected one; none past the eight places
+unfoldable pub slot_at : Receiver → ℕ → Option Slot
+slot_at r d = get_or r.held d None
 
 -- ---- Arrival
 
@@ -28,7 +28,7 @@ arriving r b = arrive_number (reading b).number (distance_of r b) (is_held (slot
 
 -- "With d under 8 the container is held."
 unfoldable pub holding : Receiver → ℕ → List ℕ → Receiver
-holding r d b = record { expected = r.expected; held = set r.held d (slot_of b) }
+holding r d b = record { expected = r.expected; held = set r.held d (Some (slot_of b)) }
 
 unfoldable pub arrive_of : Receiver → List ℕ → Arrived
 arrive_of r b = record { number = arriving r b; receiver = cond (eqb (arriving r b) 0) (holding r (distance_of r b) b) r }
@@ -37,7 +37,7 @@ arrive_of r b = record { number = arriving r b; receiver = cond (eqb (arriving r
 
 -- "frees its room and moves on by one"; "giving it up only moves on by one, freeing a held one"
 unfoldable pub moved_on : Receiver → Receiver
-moved_on r = record { expected = (r.expected + 1) % 256; held = drop 1 r.held ++ empty_slot ∷ [] }
+moved_on r = record { expected = (r.expected + 1) % 256; held = drop 1 r.held ++ None ∷ [] }
 
 unfoldable pub asking : Receiver → ℕ → ℕ
 asking r room = next_number (is_held (slot_at r 0)) (container_in (slot_at r 0)) room
@@ -48,6 +48,10 @@ next_done r room = done_with (asking r room) (container_in (slot_at r 0))
 -- "hands out the expected one if held, frees its room and moves on by one"; "12, which leaves it held"
 unfoldable pub asked_with : Receiver → Done → Asked
 asked_with r d = record { number = d.number; written = d.written; receiver = cond (eqb d.number 0) (moved_on r) r }
+
+-- what a refused call answers
+abbrev pub refused_of : ℕ → Receiver → Asked
+refused_of number r = record { number = number; written = 0; receiver = r }
 
 unfoldable pub next_of : Receiver → ℕ → Asked
 next_of r room = asked_with r (next_done r room)

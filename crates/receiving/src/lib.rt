@@ -1,24 +1,31 @@
 // A receiver of containers that come late and twice: it holds up to eight, and hands them out in the order of their counters (02, A12).
 #![tactic(auto)]
 
-ghost use Rattle.std.specs.Prelude.{◌≡◌, ◌≤◌, length};
-ghost use Rattle.std.proofs.lemmas.List.Edits.{sets};
-ghost use Rattle.receiving.specs.Slots.{empty_slot, slot_of, container_in, is_held};
-ghost use Rattle.receiving.specs.Receiver.{fresh_of, slot_at, arrive_of, moved_on, next_of, next_out};
-ghost use Rattle.receiving.specs.Numbers.{ahead, place_number, next_number};
+ghost use Rattle.std.specs.Prelude.{◌≡◌, ◌≤◌, Some, length};
+ghost use Rattle.receiving.specs.Slots.{slot_of, container_in, is_held};
+ghost use Rattle.receiving.specs.Receiver.{fresh_of, slot_at, arrive_of, moved_on, refused_of, next_of, next_out};
+ghost use Rattle.receiving.specs.Numbers.{ahead, place_number};
 
-// A place for a container, which lies at the front of its bytes; size 0 where none is held.
+// A container that is held, at the front of its bytes: memory is fixed, so they stand in an array as long as the longest.
 #[derive(Clone, Copy)]
 pub struct Slot {
     size: u8,
     bytes: [u8; 255],
 }
 
+impl Slot {
+    fn container(&self) -> &[u8]
+        ensures { result.now ≡ container_in (Some self.now) }
+    {
+        &self.bytes[..usize::from(self.size)]
+    }
+}
+
 // What is held stands in the place that is as far on as its counter is ahead of the expected one.
 #[derive(Clone, Copy)]
 pub struct Receiver {
     expected: u8,
-    held: [Slot; 8],
+    held: [Option<Slot>; 8],
 }
 
 // What each call answers: 02's number, and the receiver after it.
@@ -35,17 +42,6 @@ pub struct Asked {
     pub receiver: Receiver,
 }
 
-// A place that holds none.
-fn empty_slot() -> Slot
-    ensures { result ≡ empty_slot }
-{
-    Slot {
-        size: 0,
-        bytes: [0u8; 255],
-    }
-}
-
-// A place that holds a container.
 fn slot_of(bytes: &[u8]) -> Slot
     requires { length bytes.now ≤ 255 }
     ensures { result ≡ slot_of bytes.now }
@@ -58,30 +54,13 @@ fn slot_of(bytes: &[u8]) -> Slot
     }
 }
 
-// How many bytes a place holds.
-fn container_size(slot: Slot) -> usize
-    ensures { result ≡ length (container_in slot) }
-{
-    slot.size as usize
-}
-
-// Puts what a place holds to the front of out.
-fn put_container(slot: Slot, out: &mut [u8])
-    ensures { out.new ≡ sets out.old 0 (container_in slot) }
-{
-    let size = slot.size as usize;
-    let bytes = slot.bytes;
-    laws::copy_at(&bytes[..size], out, 0);
-}
-
 // A receiver that holds nothing.
 pub fn fresh(expected: u8) -> Receiver
     ensures { result ≡ fresh_of expected }
 {
-    let none = empty_slot();
     Receiver {
         expected,
-        held: [none; 8],
+        held: [None; 8],
     }
 }
 
@@ -89,7 +68,7 @@ pub fn fresh(expected: u8) -> Receiver
 fn distance(counter: u8, expected: u8) -> usize
     ensures { result ≡ ahead counter expected }
 {
-    (counter as usize + (256 - expected as usize)) % 256
+    usize::from(counter.wrapping_sub(expected))
 }
 
 // What refuses a container that is so far ahead: 70 to 72.
@@ -102,9 +81,7 @@ fn place_number(r: Receiver, d: usize) -> u8
     if 8 <= d {
         return 71;
     }
-    let held = r.held;
-    let slot = held[d];
-    if 0 < slot.size {
+    if r.held[d].is_some() {
         return 72;
     }
     0
@@ -115,15 +92,13 @@ pub fn arrive(r: Receiver, bytes: &[u8]) -> Arrived
     ensures { result ≡ arrive_of r bytes.now }
 {
     let read = container::read_container(bytes);
-    let unread = read.number;
-    if unread != 0 {
+    if read.number != 0 {
         return Arrived {
-            number: unread,
+            number: read.number,
             receiver: r,
         };
     }
-    let contents = read.contents;
-    let d = distance(contents.counter, r.expected);
+    let d = distance(read.contents.counter, r.expected);
     let number = place_number(r, d);
     if number != 0 {
         return Arrived {
@@ -132,8 +107,7 @@ pub fn arrive(r: Receiver, bytes: &[u8]) -> Arrived
         };
     }
     let mut held = r.held;
-    let slot = slot_of(bytes);
-    held[d] = slot;
+    held[d] = Some(slot_of(bytes));
     Arrived {
         number: 0,
         receiver: Receiver {
@@ -147,45 +121,40 @@ pub fn arrive(r: Receiver, bytes: &[u8]) -> Arrived
 fn moved_on(r: Receiver) -> Receiver
     ensures { result ≡ moved_on r }
 {
-    let h = r.held;
-    let none = empty_slot();
+    let mut held = r.held;
+    held.rotate_left(1);
+    held[7] = None;
     Receiver {
-        expected: ((r.expected as u32 + 1) % 256) as u8,
-        held: [h[1], h[2], h[3], h[4], h[5], h[6], h[7], none],
+        expected: r.expected.wrapping_add(1),
+        held,
     }
 }
 
-// What refuses to hand out what a place holds: 73, then 12.
-fn next_number(slot: Slot, room: usize) -> u8
-    ensures { result ≡ next_number (is_held slot) (container_in slot) room }
+fn refused(number: u8, r: Receiver) -> Asked
+    ensures { result ≡ refused_of number r }
 {
-    if slot.size == 0 {
-        return 73;
+    Asked {
+        number,
+        written: 0,
+        receiver: r,
     }
-    if room < container_size(slot) {
-        return 12;
-    }
-    0
 }
 
 // Ask for the next: 73, then 12, which leaves it held.
 pub fn next(r: Receiver, out: &mut [u8]) -> Asked
     ensures { (result ≡ next_of r (length out.old)) × (out.new ≡ next_out r out.old) }
 {
-    let held = r.held;
-    let slot = held[0];
-    let refused = next_number(slot, out.len());
-    if refused != 0 {
-        return Asked {
-            number: refused,
-            written: 0,
-            receiver: r,
-        };
+    let Some(slot) = r.held[0] else {
+        return refused(73, r);
+    };
+    let bytes = slot.container();
+    if out.len() < bytes.len() {
+        return refused(12, r);
     }
-    put_container(slot, out);
+    laws::copy_at(bytes, out, 0);
     Asked {
         number: 0,
-        written: container_size(slot),
+        written: bytes.len(),
         receiver: moved_on(r),
     }
 }

@@ -1,14 +1,15 @@
 -- Any run from a fresh receiver: what its places hold is what the history says, so that the next answer is the paper's.
 use Prim.Native.Nat.{ℕ, zero, suc, ◌+◌, ◌%◌}
 use mathlib.Core.Path.{◌≡◌, refl, sym, ap, subst, ◌∙◌}
-use mathlib.Core.Bool.{Bool, true, false, cond, false≢true}
+use mathlib.Core.Bool.{Bool, true, false, cond}
 use mathlib.Core.List.{List, [], ◌∷◌, ◌++◌}
 use native.Mathlib.Omega.{arith}
 use native.Mathlib.Decide.{ℕ_discrete}
-use borrow.Author.Tests.{eq-eqb, ne_eqb, eqb-true, lt-ltb}
+use borrow.Author.Tests.{eq-eqb, ne_eqb, eqb-true}
 use lib.Dec.{eqb}
 use lib.Seq.{get_or-set_same, get_or-set_other}
-use lib.ListN.{length, get_or, set, drop, replicate, length-set, length-append, length-drop}
+use lib.ListN.{length, get_or, drop, replicate, length-set, length-append, length-drop}
+use Rattle.std.specs.Prelude.{Option, Some, None}
 use Rattle.laws.specs.Bytes.{Bytes}
 use Rattle.laws.specs.Calls.{room_number, done_with, out_with}
 use Rattle.laws.proofs.Lists.{stored_front}
@@ -16,7 +17,7 @@ use Rattle.container.specs.Reading.{reading}
 use Rattle.container_laws.proofs.Container.{accepted_size}
 use Rattle.receiving.specs.declared.Slot.{Slot}
 use Rattle.receiving.specs.declared.Receiver.{Receiver}
-use Rattle.receiving.specs.Slots.{empty_slot, no_slot, slot_of, container_in, is_held}
+use Rattle.receiving.specs.Slots.{slot_of, container_in, is_held}
 use Rattle.receiving.specs.Numbers.{ahead, there_number, next_number}
 use Rattle.receiving.specs.Receiver.{fresh_of, slot_at, distance_of, arriving, holding, arrive_of, moved_on, asking, next_done, asked_with, next_of, next_out}
 use Rattle.receiving_laws.specs.Calls.{Call, arrive, next, give_up, Answer, saying, Event, event, answer_of, after_call, Lent, Run, none, then}
@@ -27,36 +28,19 @@ use Rattle.receiving_laws.proofs.Told as told
 -- ---- Places
 
 -- a place holds what was taken in
-unfoldable pub Fits : Slot → List (List ℕ) → Type 0
-Fits s [] = is_held s ≡ false
-Fits s (b ∷ bs) = (s ≡ slot_of b) × (is_held s ≡ true)
+unfoldable pub Fits : Option Slot → List (List ℕ) → Type 0
+Fits s [] = s ≡ None
+Fits s (b ∷ bs) = s ≡ Some (slot_of b)
 
-fits_some_lem : (s : Slot) (ts : List (List ℕ)) → Fits s ts → is_held s ≡ is_some ts
-unfolding Fits is_some
-fits_some_lem s [] f = f
-fits_some_lem s (b ∷ bs) f = f.1
-
-empty_free : is_held empty_slot ≡ false
-unfolding is_held empty_slot
-empty_free = refl
-
-none_free : is_held no_slot ≡ false
-unfolding is_held
-none_free = refl
-
-fits_free : (s t : Slot) (ts : List (List ℕ)) → is_held s ≡ false → is_held t ≡ false → Fits s ts → Fits t ts
-unfolding Fits
-fits_free s t [] p q f = q
-fits_free s t (b ∷ bs) p q f = absurd (false≢true (sym p ∙ f.1))
+fits_some_lem : (s : Option Slot) (ts : List (List ℕ)) → Fits s ts → is_held s ≡ is_some ts
+unfolding Fits is_held is_some
+fits_some_lem s [] f = rw f
+fits_some_lem s (b ∷ bs) f = rw f
 
 -- a container is held as it came
-kept_whole : (b : List ℕ) → Bytes b → (reading b).number ≡ 0 → container_in (slot_of b) ≡ b
+kept_whole : (b : List ℕ) → Bytes b → (reading b).number ≡ 0 → container_in (Some (slot_of b)) ≡ b
 unfolding container_in slot_of
 kept_whole b small a = stored_front b (replicate 255 0) (length b) refl (omega (arith, (accepted_size b small a).1))
-
-kept_held : (b : List ℕ) → Bytes b → (reading b).number ≡ 0 → is_held (slot_of b) ≡ true
-unfolding is_held slot_of
-kept_held b small a = lt-ltb 0 (length b) (omega (arith, (accepted_size b small a).0))
 
 -- ---- What holds after a run
 
@@ -66,9 +50,9 @@ pub record Holds (e : ℕ) (es : List Event) (r : Receiver) : Type 0 where
   pub eight : length r.held ≡ 8
   pub fits : (k : ℕ) → Fits (slot_at r k) (taken e es (expected e es + k))
 
-all_free : (n k : ℕ) → is_held (get_or (replicate n empty_slot) k no_slot) ≡ false
-all_free zero k = none_free
-all_free (suc n) zero = empty_free
+all_free : (n k : ℕ) → ◌≡◌ {A = Option Slot} (get_or (replicate n None) k None) None
+all_free zero k = refl
+all_free (suc n) zero = refl
 all_free (suc n) (suc k) = all_free n k
 
 pub fresh_holds : (e : ℕ) → Holds e [] (fresh_of e)
@@ -77,18 +61,18 @@ fresh_holds e = record { told = told.none; counter = ap (λ (n : ℕ). n % 256) 
 
 -- ---- Moving on
 
-with_one_more : (xs : List Slot) (ts : ℕ → List (List ℕ)) → ((k : ℕ) → Fits (get_or xs k no_slot) (ts k)) → (k : ℕ) → Fits (get_or (xs ++ empty_slot ∷ []) k no_slot) (ts k)
-with_one_more [] ts f zero = fits_free no_slot empty_slot (ts 0) none_free empty_free (f 0)
+with_one_more : (xs : List (Option Slot)) (ts : ℕ → List (List ℕ)) → ((k : ℕ) → Fits (get_or xs k None) (ts k)) → (k : ℕ) → Fits (get_or (xs ++ None ∷ []) k None) (ts k)
+with_one_more [] ts f zero = f 0
 with_one_more [] ts f (suc k) = f (suc k)
 with_one_more (x ∷ xs) ts f zero = f 0
 with_one_more (x ∷ xs) ts f (suc k) = with_one_more xs (λ i. ts (suc i)) (λ i. f (suc i)) k
 
-without_first : (xs : List Slot) (k : ℕ) → get_or (drop 1 xs) k no_slot ≡ get_or xs (suc k) no_slot
+without_first : (xs : List (Option Slot)) (k : ℕ) → get_or (drop 1 xs) k None ≡ get_or xs (suc k) None
 without_first [] k = refl
 without_first (x ∷ xs) k = refl
 
-moved_eight : (xs : List Slot) → length xs ≡ 8 → length (drop 1 xs ++ empty_slot ∷ []) ≡ 8
-moved_eight xs l = length-append (drop 1 xs) (empty_slot ∷ []) ∙ rw length-drop (omega (arith, l))
+moved_eight : (xs : List (Option Slot)) → length xs ≡ 8 → length (drop 1 xs ++ None ∷ []) ≡ 8
+moved_eight xs l = length-append (drop 1 xs) (None ∷ []) ∙ rw length-drop (omega (arith, l))
 
 module _ (e : ℕ) (es : List Event) (r : Receiver) (h : Holds e es r) (v : Event) (t : Told e (v ∷ es)) (same : (x : ℕ) → taken e (v ∷ es) x ≡ taken e es x) where
   pub stays : gone (v ∷ es) ≡ gone es → Holds e (v ∷ es) r
@@ -116,11 +100,11 @@ module _ (e : ℕ) (es : List Event) (r : Receiver) (h : Holds e es r) (v : Even
 
 -- ---- Asking for the next
 
-pub same_next : (s : Slot) (es : List Event) (x : ℕ) (out : List ℕ) {ts : List (List ℕ)} → Fits s ts → Once es x ts
+pub same_next : (s : Option Slot) (es : List Event) (x : ℕ) (out : List ℕ) {ts : List (List ℕ)} → Fits s ts → Once es x ts
     → handing (next_number (is_held s) (container_in s) (length out)) (container_in s) out ≡ asked ts out
-unfolding Fits asked first is_some handing next_number there_number room_number done_with out_with
+unfolding Fits asked first is_some handing next_number there_number room_number done_with out_with is_held container_in
 same_next s es x out f nothing = rw f
-same_next s es x out f (one b i small a c) = rw (f.1, f.0, kept_whole b small a)
+same_next s es x out f (one b i small a c) = rw (f, kept_whole b small a)
 
 -- ---- Arrival
 
@@ -147,13 +131,11 @@ module _ (e : ℕ) (es : List Event) (r : Receiver) (h : Holds e es r) (b : List
   -- the place that takes it, and the others
   at_place : Bytes b → TakenIn e es b → Fits (slot_at (holding r d b) d) (b ∷ taken e es (expected e es + d))
   unfolding slot_at holding Fits
-  at_place small i =
-      let s : get_or (set r.held d (slot_of b)) d no_slot ≡ slot_of b = get_or-set_same r.held d (slot_of b) no_slot (omega (arith, h.eight, i.near)) in
-      (s, ap is_held s ∙ kept_held b small i.accepted)
+  at_place small i = get_or-set_same r.held d (Some (slot_of b)) None (omega (arith, h.eight, i.near))
 
   elsewhere : (k : ℕ) → (k ≡ d → ⊥) → Fits (slot_at (holding r d b) k) (taken e es (expected e es + k))
   unfolding slot_at holding
-  elsewhere k n = rw (get_or-set_other r.held d k (slot_of b) no_slot n) (h.fits k)
+  elsewhere k n = rw (get_or-set_other r.held d k (Some (slot_of b)) None n) (h.fits k)
 
   fits_after : Bytes b → (paper e es (arrive b)).number ≡ 0 → (k : ℕ)
       → Fits (slot_at (holding r d b) k) (taken e (event (arrive b) (paper e es (arrive b)) ∷ es) (expected e es + k))

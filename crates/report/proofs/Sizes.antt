@@ -14,10 +14,11 @@ use Rattle.container.specs.declared.Contents.{Contents}
 use Rattle.container.specs.declared.Reading.{Reading}
 use Rattle.rates.specs.Rates.{rate_listed, two_fields}
 use Rattle.container.specs.Writing.{id_readable, video_readable, readable}
-use Rattle.container.specs.Reading.{header_number, refusal, parts_say, parts_joined, id_in, video_in, audio_in, parts_reading, middle, reading}
+use Rattle.container.specs.Reading.{header_number, refusal, parts_say, id_in, video_in, audio_in, parts_reading, middle, reading}
 use Rattle.laws.specs.Bytes.{Bytes}
 use Rattle.laws.specs.Sums.{sum}
 use Rattle.laws.proofs.Tests.{both, chosen}
+use Rattle.container.proofs.Parts.{part_cases}
 use Rattle.container_laws.proofs.Back.{accepted_is}
 use Rattle.container_laws.proofs.Gives.{reading_readable}
 use Rattle.text.specs.Lines.{item, space, newline, refused, refused_text}
@@ -89,19 +90,16 @@ one_small true x y h k = h
 one_small false x y h k = k
 
 number_small : (s : List ℕ) → (reading s).number < 1000
-unfolding reading parts_reading parts_joined
+unfolding reading parts_reading
 number_small s =
+    let P : Reading → Type 0 = λ r. r.number < 1000 in
     let flags : ℕ = get_or s 3 0 in
     let b : List ℕ = middle s in
-    let i = id_in flags b in
-    let v = video_in flags b in
-    let a = audio_in flags b in
     one_small (eqb (header_number s) 0) _ (refusal (header_number s))
-    (one_small i.ok _ (refusal 25)
-    (one_small v.ok _ (refusal 26)
-    (one_small a.ok _ (refusal 27)
-    (one_small (eqb (i.used + v.used + a.used) (length b)) (parts_say (get_or s 1 0) flags i v a) (refusal 28) (omega arith) (omega arith))
-    (omega arith)) (omega arith)) (omega arith))
+    (part_cases P (id_in flags b) (refusal 25) _ (omega arith)
+    (λ i _. part_cases P (video_in flags i.used b) (refusal 26) _ (omega arith)
+    (λ v _. part_cases P (audio_in flags (i.used + v.used) b) (refusal 27) _ (omega arith)
+    (λ a _. one_small (eqb (i.used + v.used + a.used) (length b)) (parts_say (get_or s 1 0) flags i v a) (refusal 28) (omega arith) (omega arith)))))
     (header_small s)
 
 video_small : (rate : ℕ) (v : Video) → video_readable rate v ≡ true → length (video_text v) ≤ 18

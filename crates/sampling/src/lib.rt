@@ -105,19 +105,17 @@ fn tap_sum(line: &[u8], s: usize, n: usize) -> u32
     requires { (2 * (s + n) ≤ length line.now) × (n ≤ 6) }
     ensures { result ≡ tap_sum line.now s n }
 {
-    let mut pairs: u32 = 0;
-    let mut i: usize = 0;
-    while i + 1 < n {
-        pairs += tap_pair(line, s + i);
-        i += 2;
+    let mut pairs = 0;
+    for i in 0..n / 2 {
+        pairs += tap_pair(line, s + 2 * i);
     }
-    if n <= i {
+    if n % 2 == 0 {
         return halves(pairs);
     }
-    if i == 0 {
+    if n == 1 {
         return tap(line, s);
     }
-    let last = tap_pair(line, s + i - 1);
+    let last = tap_pair(line, s + n - 2);
     halves(pairs + last - last % 65536)
 }
 
@@ -135,33 +133,29 @@ fn fill(line: &[u8], start: usize, step: usize, before: usize, n: usize, out: &m
     requires in_bounds { 60 ≤ length out.old }
     ensures { out.new ≡ firsts (pixel_by line.now start step before n) 60 ++ drop 60 out.old }
 {
-    let mut i: usize = 0;
-    let mut at = start - before;
-    while i < 60 {
-        out[i] = mean(line, at, n);
-        at += step;
-        i += 1;
+    for k in 0..60 {
+        out[k] = mean(line, start + step * k - before, n);
     }
 }
 
-// The same where a pixel is its own sample: four a turn, which the compiler does not gather one by one into a vector.
+// The same where a pixel is its own sample: four a turn, which the compiler does not gather one by one into a vector. The place goes along: worked out for
+// each pixel, as `start + step * k`, it took 1.15 times as long.
 fn fill_single(line: &[u8], start: usize, step: usize, out: &mut [u8])
     requires step_in_bounds { 2 * (start + step * 59 + 1) ≤ length line.now }
     requires in_bounds { 60 ≤ length out.old }
     ensures { out.new ≡ firsts (pixel_by line.now start step 0 1) 60 ++ drop 60 out.old }
 {
-    let mut i: usize = 0;
     let mut at = start;
-    while i < 60 {
-        out[i] = tap(line, at) as u8;
+    for j in 0..15 {
+        let k = 4 * j;
+        out[k] = tap(line, at) as u8;
         at += step;
-        out[i + 1] = tap(line, at) as u8;
+        out[k + 1] = tap(line, at) as u8;
         at += step;
-        out[i + 2] = tap(line, at) as u8;
+        out[k + 2] = tap(line, at) as u8;
         at += step;
-        out[i + 3] = tap(line, at) as u8;
+        out[k + 3] = tap(line, at) as u8;
         at += step;
-        i += 4;
     }
 }
 

@@ -124,15 +124,6 @@ module _ (s : Session) where
 
   -- ---- Pack
 
-  module _ (a : set ≡ true) (b : is_ready s.programme.picture ≡ true) (n : ℕ) where
-    pub pack_fits : (eqb n 0 || eqb n 20) ≡ true → 0 ≡ pack_number s n
-    unfolding pack_number ready_number
-    pack_fits e = rw (a, b, e)
-
-    pub pack_11 : (eqb n 0 || eqb n 20) ≡ false → 11 ≡ pack_number s n
-    unfolding pack_number ready_number
-    pack_11 e = rw (a, b, e)
-
   module _ (id out : List ℕ) where
     pub pack_refused : (pack_number s (length id) ≡ 0 → ⊥)
         → (refused_with (pack_number s (length id)) s ≡ pack_of s id (length out)) × (out ≡ pack_out s id out)

@@ -1,26 +1,18 @@
 -- Laws of the fingerprints as lists: what a loop over them keeps.
-use Prim.Native.Nat.{ℕ, zero, suc, ◌+◌, ◌-◌, ◌≤◌, ◌<◌}
+use Prim.Native.Nat.{ℕ, zero, suc, ◌+◌, ◌≤◌, ◌<◌}
 use mathlib.Core.List.{List, [], ◌∷◌, map}
 use mathlib.Core.Path.{◌≡◌, refl, ap, sym, ◌∙◌}
-use mathlib.Core.Bool.{true, ◌&&◌}
+use mathlib.Core.Bool.{Bool, ◌&&◌}
+use Rattle.std.specs.List.{list_all}
 use native.Mathlib.Omega.{arith}
 use native.Mathlib.Numerals.{add-one}
 use native.Mathlib.Nat.{not-suc-le-zero, le_of_suc-le-suc, add-zero, add-suc, suc-add}
-use lib.ListN.{length, get_or, set, drop, drop_of_length-le}
-use lib.Seq.{drop-cons}
+use lib.ListN.{length, get_or, set, take}
 use Rattle.fingerprint.specs.declared.Fingerprint.{Fingerprint}
 use Rattle.fingerprint.specs.State.{fresh_of, holds_of}
 use Rattle.rates.specs.Mixes.{mix_listed}
 use Rattle.container.specs.declared.Print.{Print}
 use Rattle.session.specs.Fingerprints.{all_listed, each, all_hold, print_of, prints_of}
-
-pub listed_step : (ms : List ℕ) (i : ℕ) → i < length ms → all_listed (drop i ms) ≡ (mix_listed (get_or ms i 0) && all_listed (drop (i + 1) ms))
-unfolding all_listed
-listed_step ms i h = rw (add-one, drop-cons ms i 0)
-
-pub listed_end : (ms : List ℕ) (i : ℕ) → length ms ≤ i → all_listed (drop i ms) ≡ true
-unfolding all_listed
-listed_end ms i h = rw drop_of_length-le
 
 -- the mix type of a place, made fresh
 pub fresh_at : (ms : List ℕ) (i : ℕ) (d : Fingerprint) → i < length ms → fresh_of (get_or ms i 0) ≡ get_or (map fresh_of ms) i d
@@ -52,18 +44,6 @@ each_length g zero fs = refl
 each_length g (suc n) [] = refl
 each_length g (suc n) (f ∷ fs) = ap suc (each_length g n fs)
 
--- one fingerprint more that is asked
-pub hold_step : (due n : ℕ) (fs : List Fingerprint) (k : ℕ) (d : Fingerprint) → k < n → k < length fs
-    → all_hold due (n - k) (drop k fs) ≡ (holds_of (get_or fs k d) due && all_hold due (n - (k + 1)) (drop (k + 1) fs))
-unfolding all_hold
-hold_step due n fs k d h l =
-    let e : n - k ≡ suc (n - (k + 1)) = omega arith in
-    rw (e, add-one k, drop-cons fs k d)
-
-pub hold_end : (due n : ℕ) (fs : List Fingerprint) (k : ℕ) → n ≤ k → all_hold due (n - k) (drop k fs) ≡ true
-unfolding all_hold
-hold_end due n fs k h = let e : n - k ≡ 0 = omega arith in rw e
-
 pub prints_length : (due k n : ℕ) (fs : List Fingerprint) → n ≤ length fs → length (prints_of due k n fs) ≡ n
 unfolding prints_of
 prints_length due k zero fs h = refl
@@ -83,3 +63,15 @@ print_from due k (suc n) (f ∷ fs) (suc i) p d h l =
 pub print_at : (due n : ℕ) (fs : List Fingerprint) (i : ℕ) (p : Print) (d : Fingerprint) → i < n → i < length fs
     → get_or (prints_of due 0 n fs) i p ≡ print_of i due (get_or fs i d)
 print_at due n fs i p d h l = print_from due 0 n fs i p d h l ∙ ap (λ (j : ℕ). print_of j due (get_or fs i d)) (omega arith)
+
+-- the test that `all` computes
+pub listed_all : (ms : List ℕ) → list_all mix_listed ms ≡ all_listed ms
+unfolding all_listed
+listed_all [] = refl
+listed_all (m ∷ ms) = ap (λ (b : Bool). mix_listed m && b) (listed_all ms)
+
+pub hold_all : (due n : ℕ) (fs : List Fingerprint) → list_all (λ f. holds_of f due) (take n fs) ≡ all_hold due n fs
+unfolding all_hold
+hold_all due zero fs = refl
+hold_all due (suc n) [] = refl
+hold_all due (suc n) (f ∷ fs) = ap (λ (b : Bool). holds_of f due && b) (hold_all due n fs)

@@ -1,5 +1,9 @@
 // The fingerprints of a session, one after the other.
 ghost use Rattle.std.specs.Prelude.{◌≡◌, ◌≤◌, length};
+ghost use Rattle.std.specs.List.{list_all};
+ghost use Rattle.std.specs.Prelude.{take};
+ghost use Rattle.rates.specs.Mixes.{mix_listed};
+ghost use Rattle.fingerprint.specs.State.{holds_of};
 ghost use Rattle.session.specs.Fingerprints.{each, all_listed, fresh_fingerprints, cleared, all_hold, part_of, parts_of};
 
 use container::Print;
@@ -21,16 +25,9 @@ pub(crate) struct Parts {
 
 // Whether every mix type is listed.
 pub(crate) fn all_listed(mixes: &[u8]) -> bool
-    ensures { result ≡ all_listed mixes.now }
+    ensures { result ≡ list_all mix_listed mixes.now }
 {
-    let mut i = 0;
-    while i < mixes.len() {
-        if !rates::mix_listed(mixes[i]) {
-            return false;
-        }
-        i += 1;
-    }
-    true
+    mixes.iter().all(|&mix| rates::mix_listed(mix))
 }
 
 // A fresh fingerprint for each mix type; the places after them have none.
@@ -38,13 +35,9 @@ pub(crate) fn fresh_fingerprints(mixes: &[u8]) -> [Fingerprint; 32]
     requires { length mixes.now ≤ 32 }
     ensures { result ≡ fresh_fingerprints mixes.now }
 {
-    let none = fingerprint::fresh(0);
-    let mut fingerprints = [none; 32];
-    let mut k = 0;
-    while k < mixes.len() {
-        let f = fingerprint::fresh(mixes[k]);
-        fingerprints[k] = f;
-        k += 1;
+    let mut fingerprints = [fingerprint::fresh(0); 32];
+    for (k, &mix) in mixes.iter().enumerate() {
+        fingerprints[k] = fingerprint::fresh(mix);
     }
     fingerprints
 }
@@ -55,12 +48,8 @@ pub(crate) fn clear(fingerprints: [Fingerprint; 32], n: usize) -> [Fingerprint; 
     ensures { result ≡ each cleared n fingerprints }
 {
     let mut next = fingerprints;
-    let mut k = 0;
-    while k < n {
-        let f = next[k];
-        let g = fingerprint::restart(f);
-        next[k] = g;
-        k += 1;
+    for k in 0..n {
+        next[k] = fingerprint::restart(next[k]);
     }
     next
 }
@@ -68,17 +57,11 @@ pub(crate) fn clear(fingerprints: [Fingerprint; 32], n: usize) -> [Fingerprint; 
 // Whether each of the first n holds the whole bytes that are due.
 pub(crate) fn all_hold(fingerprints: [Fingerprint; 32], n: usize, due: usize) -> bool
     requires { n ≤ 32 }
-    ensures { result ≡ all_hold due n fingerprints }
+    ensures { result ≡ list_all (λ f. holds_of f due) (take n fingerprints) }
 {
-    let mut k = 0;
-    while k < n {
-        let f = fingerprints[k];
-        if !fingerprint::holds(f, due) {
-            return false;
-        }
-        k += 1;
-    }
-    true
+    fingerprints[..n]
+        .iter()
+        .all(|&f| fingerprint::holds(f, due))
 }
 
 // Fingerprint k as a container says it, with ID k and the bytes that are due, and the fingerprint without them.
@@ -87,14 +70,15 @@ fn say(k: u8, f: Fingerprint, due: u8) -> Part
 {
     let t = fingerprint::take(f, due as usize);
     let bytes = t.bytes;
-    let left = t.fingerprint;
-    let print = Print {
-        id: k,
-        mix: fingerprint::mix_type(f),
-        size: due,
-        bytes,
-    };
-    Part { print, left }
+    Part {
+        print: Print {
+            id: k,
+            mix: fingerprint::mix_type(f),
+            size: due,
+            bytes,
+        },
+        left: t.fingerprint,
+    }
 }
 
 // The first n as a container says them, blank places after them, and all of them afterwards: each one's bytes are taken once.
@@ -102,18 +86,12 @@ pub(crate) fn say_all(fingerprints: [Fingerprint; 32], n: usize, due: u8) -> Par
     requires { n ≤ 32 }
     ensures { result ≡ parts_of due n fingerprints }
 {
-    let none = container::blank_print();
-    let mut said = [none; 32];
+    let mut said = [container::blank_print(); 32];
     let mut left = fingerprints;
-    let mut k = 0;
-    while k < n {
-        let f = left[k];
-        let p = say(k as u8, f, due);
-        let print = p.print;
-        let rest = p.left;
-        said[k] = print;
-        left[k] = rest;
-        k += 1;
+    for k in 0..n {
+        let p = say(k as u8, left[k], due);
+        said[k] = p.print;
+        left[k] = p.left;
     }
     Parts { said, left }
 }

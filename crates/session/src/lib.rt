@@ -66,49 +66,32 @@ pub struct Packed {
 }
 
 // Whether there is a session, and not an empty one.
+#[tactic(auto, unfolding(crate::specs::Session::is_set))]
 fn is_set(s: Settings) -> bool
     ensures { result ≡ is_set s }
 {
-    if !rates::pairs(s.format, s.rate) {
-        return false;
-    }
-    if s.count < 1 {
-        return false;
-    }
-    s.count <= 32
+    rates::pairs(s.format, s.rate) && 1 <= s.count && s.count <= 32
 }
 
 // Whether a mixing rule is listed.
+#[tactic(auto, unfolding(crate::specs::Session::rule_listed))]
 fn rule_listed(rule: u8) -> bool
     ensures { result ≡ rule_listed rule }
 {
-    if rule == 1 {
-        return true;
-    }
-    rule == 2
+    matches!(rule, 1 | 2)
 }
 
 // 1 where the format, the rate, their pairing, the mixing rule, the number of mix types or one of them is not listed.
+#[tactic(auto, using(crate::proofs::Lists::listed_all), unfolding(crate::specs::Session::setup_number))]
 fn setup_number(format: u8, rate: u8, rule: u8, mixes: &[u8]) -> u8
     ensures { result ≡ setup_number format rate rule mixes.now }
 {
-    if !rates::pairs(format, rate) {
-        return 1;
-    }
-    if !rule_listed(rule) {
-        return 1;
-    }
-    if mixes.len() < 1 {
-        return 1;
-    }
-    if 32 < mixes.len() {
-        return 1;
-    }
-    if fingerprints::all_listed(mixes) {
-        0
-    } else {
-        1
-    }
+    let listed = rates::pairs(format, rate)
+        && rule_listed(rule)
+        && 1 <= mixes.len()
+        && mixes.len() <= 32
+        && fingerprints::all_listed(mixes);
+    if listed { 0 } else { 1 }
 }
 
 // A session as setup makes it, from a number of mix types that it takes.
@@ -116,8 +99,6 @@ fn set_up(format: u8, rate: u8, rule: u8, count: u8, mixes: &[u8]) -> Session
     requires { length mixes.now ≤ 32 }
     ensures { result ≡ set_up_with format rate rule count mixes.now }
 {
-    let picture = picture::fresh();
-    let fresh = fingerprints::fresh_fingerprints(mixes);
     Session {
         programme: Programme {
             settings: Settings {
@@ -126,11 +107,11 @@ fn set_up(format: u8, rate: u8, rule: u8, count: u8, mixes: &[u8]) -> Session
                 rule,
                 count,
             },
-            picture,
+            picture: picture::fresh(),
             counter: 0,
             place: 0,
         },
-        fingerprints: fresh,
+        fingerprints: fingerprints::fresh_fingerprints(mixes),
     }
 }
 
@@ -156,30 +137,23 @@ pub fn line(s: Session, number: usize, line: &[u8]) -> Lined
     ensures { (result ≡ line_of s number line.now) × (says_of result.number result.told ≡ line_says s number line.now) }
 {
     let p = s.programme;
-    let settings = p.settings;
-    if !is_set(settings) {
+    if !is_set(p.settings) {
         return Lined {
             number: 1,
             told: Told::Open,
             session: s,
         };
     }
-    let before = p.picture;
-    let r = picture::line(before, settings.format, number, line);
-    let told = r.told;
-    let after = r.picture;
-    let kept = s.fingerprints;
+    let r = picture::line(p.picture, p.settings.format, number, line);
     Lined {
         number: r.number,
-        told,
+        told: r.told,
         session: Session {
             programme: Programme {
-                settings,
-                picture: after,
-                counter: p.counter,
-                place: p.place,
+                picture: r.picture,
+                ..p
             },
-            fingerprints: kept,
+            ..s
         },
     }
 }
@@ -189,20 +163,19 @@ fn reach_number(s: Settings, k: usize) -> u8
     ensures { result ≡ reached s k 0 }
 {
     if !is_set(s) {
-        return 1;
+        1
+    } else if s.count as usize <= k {
+        7
+    } else {
+        0
     }
-    if s.count as usize <= k {
-        return 7;
-    }
-    0
 }
 
 // Sound: 1 for an empty session, 7, then 8 and 9.
 pub fn sound(s: Session, k: usize, block: &[u8]) -> Sounded
     ensures { result ≡ sound_of s k block.now }
 {
-    let p = s.programme;
-    let settings = p.settings;
+    let settings = s.programme.settings;
     let reach = reach_number(settings, k);
     if reach != 0 {
         return Sounded {
@@ -211,19 +184,18 @@ pub fn sound(s: Session, k: usize, block: &[u8]) -> Sounded
         };
     }
     let d = rates::interval(settings.rate);
-    let mut all = s.fingerprints;
-    let f = all[k];
+    let f = s.fingerprints[k];
     let number = fingerprint::sound_number(f, d, block.len());
     if number != 0 {
         return Sounded { number, session: s };
     }
-    let heard = fingerprint::heard(f, settings.rule, d, block);
-    all[k] = heard;
+    let mut all = s.fingerprints;
+    all[k] = fingerprint::heard(f, settings.rule, d, block);
     Sounded {
         number: 0,
         session: Session {
-            programme: p,
             fingerprints: all,
+            ..s
         },
     }
 }
@@ -232,8 +204,7 @@ pub fn sound(s: Session, k: usize, block: &[u8]) -> Sounded
 pub fn instant(s: Session, k: usize, i: Instant) -> Sounded
     ensures { result ≡ instant_of s k i }
 {
-    let p = s.programme;
-    let settings = p.settings;
+    let settings = s.programme.settings;
     let reach = reach_number(settings, k);
     if reach != 0 {
         return Sounded {
@@ -242,19 +213,18 @@ pub fn instant(s: Session, k: usize, i: Instant) -> Sounded
         };
     }
     let d = rates::interval(settings.rate);
-    let mut all = s.fingerprints;
-    let f = all[k];
+    let f = s.fingerprints[k];
     let number = fingerprint::instant_number(f, d, i);
     if number != 0 {
         return Sounded { number, session: s };
     }
-    let heard = fingerprint::heard_instant(f, settings.rule, d, i);
-    all[k] = heard;
+    let mut all = s.fingerprints;
+    all[k] = fingerprint::heard_instant(f, settings.rule, d, i);
     Sounded {
         number: 0,
         session: Session {
-            programme: p,
             fingerprints: all,
+            ..s
         },
     }
 }
@@ -264,21 +234,15 @@ pub fn video_restart(s: Session) -> Session
     ensures { result ≡ video_restarted s }
 {
     let p = s.programme;
-    let settings = p.settings;
-    if !is_set(settings) {
+    if !is_set(p.settings) {
         return s;
     }
-    let before = p.picture;
-    let after = picture::restart(before);
-    let kept = s.fingerprints;
     Session {
         programme: Programme {
-            settings,
-            picture: after,
-            counter: p.counter,
-            place: p.place,
+            picture: picture::restart(p.picture),
+            ..p
         },
-        fingerprints: kept,
+        ..s
     }
 }
 
@@ -287,41 +251,29 @@ pub fn audio_restart(s: Session) -> Session
     ensures { result ≡ audio_restarted s }
 {
     let p = s.programme;
-    let settings = p.settings;
-    if !is_set(settings) {
+    if !is_set(p.settings) {
         return s;
     }
-    let before = s.fingerprints;
-    let cleared = fingerprints::clear(before, settings.count as usize);
-    let picture = p.picture;
     Session {
-        programme: Programme {
-            settings,
-            picture,
-            counter: p.counter,
-            place: 0,
-        },
-        fingerprints: cleared,
+        programme: Programme { place: 0, ..p },
+        fingerprints: fingerprints::clear(s.fingerprints, p.settings.count as usize),
     }
 }
 
 // 1 for an empty session, 10, 11.
+#[tactic(auto, unfolding(crate::specs::Packing::pack_number, crate::specs::Packing::ready_number))]
 fn pack_number(s: Session, given: usize) -> u8
     ensures { result ≡ pack_number s given }
 {
-    let p = s.programme;
-    let settings = p.settings;
-    if !is_set(settings) {
-        return 1;
+    if !is_set(s.programme.settings) {
+        1
+    } else if !picture::is_ready(s.programme.picture) {
+        10
+    } else if matches!(given, 0 | 20) {
+        0
+    } else {
+        11
     }
-    let picture = p.picture;
-    if !picture::is_ready(picture) {
-        return 10;
-    }
-    if given == 0 {
-        return 0;
-    }
-    if given == 20 { 0 } else { 11 }
 }
 
 // Pack: 1 for an empty session, 10, 11, 12.
@@ -337,8 +289,7 @@ pub fn pack(s: Session, id: &[u8], out: &mut [u8]) -> Packed
         };
     }
     let packing = packing::make(s, id);
-    let contents = packing.contents;
-    let done = container::write_container(contents, out);
+    let done = container::write_container(packing.contents, out);
     if done.number != 0 {
         return Packed {
             number: done.number,
@@ -346,10 +297,9 @@ pub fn pack(s: Session, id: &[u8], out: &mut [u8]) -> Packed
             session: s,
         };
     }
-    let next = packing.session;
     Packed {
         number: 0,
         written: done.written,
-        session: next,
+        session: packing.session,
     }
 }

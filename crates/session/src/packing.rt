@@ -14,22 +14,23 @@ pub(crate) struct Packing {
 }
 
 // The ID's 20 bytes where they are lent, else zeros.
+#[tactic(auto, unfolding(crate::specs::Packing::id_of))]
 fn id_bytes(id: &[u8]) -> [u8; 20]
     ensures { result ≡ id_of id.now }
 {
-    let mut bytes = [0u8; 20];
-    if id.len() != 20 {
-        return bytes;
+    let mut bytes = [0; 20];
+    if id.len() == 20 {
+        bytes.copy_from_slice(id);
     }
-    laws::copy_at(id, &mut bytes, 0);
     bytes
 }
 
 // "from 0, 255 to 0"
+#[tactic(auto, unfolding(crate::specs::Packing::counter_after))]
 fn counter_after(counter: u8) -> u8
     ensures { result ≡ counter_after counter }
 {
-    ((counter as u32 + 1) % 256) as u8
+    counter.wrapping_add(1)
 }
 
 // The number of fingerprints that the container has: all or none.
@@ -44,9 +45,10 @@ fn place_after(audio: bool, rate: u8, place: u8) -> u8
     ensures { result ≡ place_with audio rate place }
 {
     if audio {
-        return rates::next_place(rate, place);
+        rates::next_place(rate, place)
+    } else {
+        place
     }
-    place
 }
 
 // What the container says, and the session once it is packed.
@@ -56,17 +58,13 @@ pub(crate) fn make(s: Session, id: &[u8]) -> Packing
 {
     let p = s.programme;
     let settings = p.settings;
-    let picture = p.picture;
-    let fingerprints = s.fingerprints;
     let due = rates::bytes_due(settings.rate, p.place);
-    let audio = all_hold(fingerprints, settings.count as usize, due as usize);
+    let audio = all_hold(s.fingerprints, settings.count as usize, due as usize);
     let count = spoken(audio, settings.count);
-    let parts = say_all(fingerprints, count as usize, due);
-    let h = picture::hand_out(picture);
-    let shown = h.shown;
-    let handed = h.picture;
+    let parts = say_all(s.fingerprints, count as usize, due);
     let said = parts.said;
     let left = parts.left;
+    let h = picture::hand_out(p.picture);
     let bytes = id_bytes(id);
     Packing {
         contents: Contents {
@@ -74,14 +72,14 @@ pub(crate) fn make(s: Session, id: &[u8]) -> Packing
             rate: settings.rate,
             hasid: id.len() == 20,
             id: bytes,
-            video: shown,
+            video: h.shown,
             count,
             prints: said,
         },
         session: Session {
             programme: Programme {
                 settings,
-                picture: handed,
+                picture: h.picture,
                 counter: counter_after(p.counter),
                 place: place_after(audio, settings.rate, p.place),
             },

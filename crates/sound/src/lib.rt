@@ -8,26 +8,23 @@ ghost use Rattle.sound.specs.Mix.{signed, signed_at, floor, quotient, mixed, pse
 ghost use Rattle.sound.specs.Filter.{envelope_next, mean_next};
 
 // The bytes of one instant: two for each channel; none for a mix type that is not listed.
+#[tactic(auto, unfolding(crate::specs::Mix::instant_bytes, crate::specs::Mix::weights))]
 pub fn instant_bytes(mix: u8) -> usize
     ensures { result ≡ instant_bytes mix }
 {
-    if mix == 1 {
-        return 2;
+    match mix {
+        1 => 2,
+        2 => 4,
+        5 => 10,
+        _ => 0,
     }
-    if mix == 2 {
-        return 4;
-    }
-    if mix == 5 {
-        return 10;
-    }
-    0
 }
 
 // A sample, given by its 16 bits, 32,768 too high, so that every sum of samples is unsigned.
 fn raised(s: u16) -> u32
     ensures { (result < 65536) × (sub_ℕ result 32768 ≡ signed s) }
 {
-    ((s as u32) + 32768) % 65536
+    (u32::from(s) + 32768) % 65536
 }
 
 // What is added to a sum, which is bias too high, so that its quotient by d, rounded down, is the rule's. This alone knows the rules:
@@ -36,10 +33,7 @@ fn lift(rule: u8, sum: u32, bias: u32, d: u32) -> u32
     requires { 0 < d }
     ensures { (result < d) × (bias ≤ sum → result ≡ 0) × (floor (sub_ℕ (sum + result) bias) d ≡ quotient rule (sub_ℕ sum bias) d) }
 {
-    if rule != 2 {
-        return 0;
-    }
-    if sum < bias { d - 1 } else { 0 }
+    if rule == 2 && sum < bias { d - 1 } else { 0 }
 }
 
 // The sum, which is bias too high, divided by d, as the 16 bits of a signed sample.
@@ -58,10 +52,7 @@ fn rounded(rule: u8, sum: u32, bias: u32, d: u32) -> u16
 fn pseudo_absolute(m: u16) -> u16
     ensures { result ≡ pseudo_absolute (signed m) }
 {
-    if m >> 15 == 1 {
-        return !m;
-    }
-    m
+    if m >> 15 == 1 { !m } else { m }
 }
 
 // a(i) of a mono instant, from its sample's 16 bits: it has no quotient, so both rules mix it to itself (`proofs.Meaning.mono_mixed`).
@@ -88,41 +79,33 @@ pub fn five_value(rule: u8, l: u16, r: u16, c: u16, ls: u16, rs: u16) -> u16
     pseudo_absolute(rounded(rule, sum, 1118765056, 40000))
 }
 
-// 16 bits, low byte first.
-fn sixteen(lo: u8, hi: u8) -> u16
-    ensures { result ≡ lo + 256 * hi }
-{
-    ((lo as u32) + 256 * (hi as u32)) as u16
-}
-
-// The 16 bits of the sample at a place of a block.
+// The 16 bits of the sample at a place of a block, low byte first.
 fn sample(block: &[u8], at: usize) -> u16
     requires { at + 2 ≤ length block.now }
     ensures { signed result ≡ signed_at block.now at }
 {
-    sixteen(block[at], block[at + 1])
+    u16::from_le_bytes([block[at], block[at + 1]])
 }
 
 // a(i), of an instant that lies whole in a block.
+#[tactic(auto, unfolding(crate::specs::Mix::instant_bytes, crate::specs::Mix::weights))]
 fn whole_value(rule: u8, mix: u8, block: &[u8], at: usize) -> u16
     requires { at + instant_bytes mix ≤ length block.now }
     ensures { result ≡ instant_value rule mix block.now at }
 {
-    if mix == 1 {
-        return mono_value(sample(block, at));
+    match mix {
+        1 => mono_value(sample(block, at)),
+        2 => stereo_value(rule, sample(block, at), sample(block, at + 2)),
+        5 => {
+            let l = sample(block, at);
+            let r = sample(block, at + 2);
+            let c = sample(block, at + 4);
+            let ls = sample(block, at + 6);
+            let rs = sample(block, at + 8);
+            five_value(rule, l, r, c, ls, rs)
+        }
+        _ => 0,
     }
-    if mix == 2 {
-        return stereo_value(rule, sample(block, at), sample(block, at + 2));
-    }
-    if mix == 5 {
-        let l = sample(block, at);
-        let r = sample(block, at + 2);
-        let c = sample(block, at + 4);
-        let ls = sample(block, at + 6);
-        let rs = sample(block, at + 8);
-        return five_value(rule, l, r, c, ls, rs);
-    }
-    0
 }
 
 // a(i), of the instant whose bytes start at a place of a block. Bytes beyond the block read as 0; a mix type that is not listed gives 0.
@@ -144,12 +127,12 @@ pub fn instant_value(rule: u8, mix: u8, block: &[u8], at: usize) -> u16
 pub fn envelope(e: u32, a: u16) -> u32
     ensures { result ≡ envelope_next e a }
 {
-    8 * (a as u32) + (e - e / 1024)
+    8 * u32::from(a) + (e - e / 1024)
 }
 
 // M(i) from M(i-1) and a(i).
 pub fn mean(m: u32, a: u16) -> u32
     ensures { result ≡ mean_next m a }
 {
-    (a as u32) + (m - m / 8192)
+    u32::from(a) + (m - m / 8192)
 }

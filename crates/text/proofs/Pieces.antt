@@ -1,5 +1,5 @@
 -- Pieces of text put one after the other: what stands in the buffer, and the place after it.
-use Prim.Native.Nat.{ℕ, ◌+◌, ◌≤◌, ◌<◌}
+use Prim.Native.Nat.{ℕ, ◌+◌, ◌≤◌, ◌<◌, min}
 use mathlib.Core.Path.{◌≡◌, refl, sym, ap, subst, ◌∙◌}
 use mathlib.Core.List.{List, [], ◌++◌}
 use native.Mathlib.Omega.{arith}
@@ -19,6 +19,14 @@ place_plain at n h = rw (le-leb (at + n) last_place h)
 pub place_last : (at n : ℕ) → last_place < at + n → place_past at n ≡ last_place
 unfolding place_past
 place_last at n h = rw (lt-leb (at + n) last_place h)
+
+-- the sum as the machine has it, which stops at the last place
+pub place_stopped : (at n : ℕ) → min (at + n) last_place ≡ place_past at n
+place_stopped at n =
+    elim (dec_lt last_place (at + n)) [
+      | yes l ↦ omega (arith, place_last at n l)
+      | no m ↦ omega (arith, place_plain at n (omega arith))
+    ]
 
 -- nothing put
 pub put_none : (o : List ℕ) (at : ℕ) → at ≤ last_place → Put o at [] o at

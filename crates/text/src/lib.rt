@@ -4,30 +4,20 @@
 
 ghost use Rattle.std.specs.Prelude.{◌≡◌, ◌<◌};
 ghost use Rattle.text.specs.Spelling.{digit_of, digits_of, decimal_text, glyph_of, hex_of, hex_text};
-ghost use Rattle.text.specs.Lines.{place_past, Put, item, refused_text};
-
-fn place_after(at: usize, size: usize) -> usize
-    ensures { result ≡ place_past at size }
-{
-    if 18446744073709551615 - at < size {
-        return 18446744073709551615;
-    }
-    at + size
-}
+ghost use Rattle.text.specs.Lines.{Put, item, refused_text};
 
 pub fn put(piece: &[u8], out: &mut [u8], at: usize) -> usize
     ensures { Put out.old at piece.now out.new result }
 {
     laws::copy_at(piece, out, at);
-    place_after(at, piece.len())
+    at.saturating_add(piece.len())
 }
 
 fn put_digit(d: u64, out: &mut [u8], at: usize) -> usize
     requires { d < 10 }
     ensures { Put out.old at (digit_of d) out.new result }
 {
-    let digit = [48 + d as u8];
-    put(&digit, out, at)
+    put(&[b'0' + d as u8], out, at)
 }
 
 // At most so many digits.
@@ -79,7 +69,7 @@ fn glyph(d: u8) -> u8
     requires { d < 16 }
     ensures { result ≡ glyph_of d }
 {
-    if d < 10 { 48 + d } else { 87 + d }
+    if d < 10 { b'0' + d } else { b'a' - 10 + d }
 }
 
 // Two hexadecimal digits a byte, no spaces.
@@ -87,11 +77,8 @@ pub fn put_hex(bytes: &[u8], out: &mut [u8], at: usize) -> usize
     ensures { Put out.old at (hex_text bytes.now) out.new result }
 {
     let mut p = at;
-    let mut i = 0;
-    while i < bytes.len() {
-        let digits = hex(bytes[i]);
-        p = put(&digits, out, p);
-        i += 1;
+    for byte in bytes {
+        p = put(&hex(*byte), out, p);
     }
     p
 }

@@ -20,8 +20,8 @@ fn put_transport(container: &[u8], out: &mut [u8])
     laws::copy_at(&head, out, 0);
     laws::copy_at(container, out, 6);
     let end = n + 2;
-    let crc = register::four_bytes(register::register(&out[..end]));
-    laws::copy_at(&crc, out, end);
+    let crc = register::register(&out[..end]);
+    laws::copy_at(&crc.to_be_bytes(), out, end);
 }
 
 // Write transport packet: 20 to 28, 12.
@@ -50,16 +50,7 @@ fn start_right(bytes: &[u8]) -> bool
     requires { 10 ≤ length bytes.now }
     ensures { result ≡ start_right bytes.now }
 {
-    if bytes[0] != 0x00 {
-        return false;
-    }
-    if bytes[1] != 0x00 {
-        return false;
-    }
-    if bytes[2] != 0x01 {
-        return false;
-    }
-    bytes[3] == 0xbf
+    matches!(bytes, [0x00, 0x00, 0x01, 0xbf, ..])
 }
 
 // The first of 40 to 43 that applies, or 0.

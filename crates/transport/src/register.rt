@@ -1,6 +1,6 @@
 // The register of CRC_32, a byte at a time.
 ghost use Rattle.std.specs.Prelude.{◌≡◌};
-ghost use Rattle.transport.specs.Register.{byte_step, register_of, four_bytes};
+ghost use Rattle.transport.specs.Register.{byte_step, register_of};
 
 use crate::table::entry;
 
@@ -8,7 +8,7 @@ use crate::table::entry;
 fn step(reg: u32, byte: u8) -> u32
     ensures { result ≡ byte_step reg byte }
 {
-    (reg << 8) ^ entry(256 + ((reg >> 24) ^ (byte as u32)))
+    (reg << 8) ^ entry(256 + ((reg >> 24) ^ u32::from(byte)))
 }
 
 // What the bytes leave in the register.
@@ -16,22 +16,8 @@ pub(crate) fn register(bytes: &[u8]) -> u32
     ensures { result ≡ register_of bytes.now }
 {
     let mut reg: u32 = 0xffff_ffff;
-    let mut i = 0;
-    while i < bytes.len() {
-        reg = step(reg, bytes[i]);
-        i += 1;
+    for &byte in bytes {
+        reg = step(reg, byte);
     }
     reg
-}
-
-// The register's four bytes, the highest first.
-pub(crate) fn four_bytes(reg: u32) -> [u8; 4]
-    ensures { result ≡ four_bytes reg }
-{
-    [
-        (reg >> 24) as u8,
-        ((reg >> 16) % 256) as u8,
-        ((reg >> 8) % 256) as u8,
-        (reg % 256) as u8,
-    ]
 }

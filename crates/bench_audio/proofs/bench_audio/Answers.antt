@@ -7,17 +7,17 @@ use Rattle.bench_audio.proofs.bench_audio.Goals as goal
 
 pub loop-i-init : goal.loop-i-init
 unfolding turns
-loop-i-init c = (omega arith, rw c.fresh-f.ensures, omega arith)
+loop-i-init c = (rw c.fresh.ensures, omega arith)
 
 pub loop-i-preserved : goal.loop-i-preserved
 unfolding turns
 loop-i-preserved c =
     let a = c.args in
-    (omega arith, rw add-one (c.block_in-t.ensures.0 ∙ ap (next_turn a.rule a.d a.block.now) c.loop-i.invariant.1), c.block_in-t.ensures.1)
+    (rw add-one (c.block_in-t.ensures.0 ∙ ap (next_turn a.rule a.d a.block.now) c.loop-i.invariant.0), c.block_in-t.ensures.1)
 
 pub returns : goal.returns
 unfolding sum_after
 returns c =
     let a = c.args in
-    let all : c.loop-i.i ≡ a.rounds = omega arith in
-    ap (λ (t : Turn). t.sum) (c.loop-i.invariant.1 ∙ ap (turns a.rule a.mix a.d a.block.now) all)
+    let all : c.loop-i._i ≡ a.rounds = omega arith in
+    ap (λ (t : Turn). t.sum) (c.loop-i.invariant.0 ∙ ap (turns a.rule a.mix a.d a.block.now) all)

@@ -10,18 +10,10 @@ pub returns-then-values-mix : goal.returns-then-values-mix
 unfolding instant_of of_bits
 returns-then-values-mix c = search tests
 
-pub returns-then-mix-eq1 : goal.returns-then-mix-eq1
+pub returns-in-1 : goal.returns-in-1
 unfolding instant_of
-returns-then-mix-eq1 c = search tests
+returns-in-1 c = search tests
 
-pub returns-then-mix-eq2 : goal.returns-then-mix-eq2
-unfolding instant_of
-returns-then-mix-eq2 c = search tests
-
-pub returns-then-mix-eq5 : goal.returns-then-mix-eq5
-unfolding instant_of
-returns-then-mix-eq5 c = search tests
-
-pub returns : goal.returns
+pub returns-in_default : goal.returns-in_default
 unfolding instant_of of_bits
-returns c = search tests
+returns-in_default c = search tests

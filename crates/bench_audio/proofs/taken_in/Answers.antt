@@ -15,6 +15,6 @@ returns c =
     let k = c.take-taken in
     let t : k.result ≡ take_of a.f (four_or_five a.f) = k.ensures ∙ ap (take_of a.f) n.ensures in (
       ap₂ (λ (f : Fingerprint) (s : ℕ). record { fingerprint = f; sum = s }) (ap (λ (x : Taken). x.fingerprint) t)
-          (c.bytes_in-next.ensures.0 ∙ ap (λ (x : Taken). bytes_in a.sum x.bytes) t),
-      c.bytes_in-next.ensures.1,
+          (c.bytes_in.ensures.0 ∙ ap (λ (x : Taken). bytes_in a.sum x.bytes) t),
+      c.bytes_in.ensures.1,
     )

@@ -10,15 +10,14 @@ use Rattle.bench_session.proofs.bench_instants.Goals as goal
 
 pub loop-i-init : goal.loop-i-init
 unfolding instant_turns
-loop-i-init c = (search rules, ap (λ (b : Begun). record { session = b.session; sum = 0 }) c.setup-begun.ensures, search rules)
+loop-i-init c = (ap (λ (b : Begun). record { session = b.session; sum = 0 }) c.setup-begun.ensures, search rules)
 
 pub loop-i-preserved : goal.loop-i-preserved
 unfolding instant_turns
 loop-i-preserved c =
     let a = c.args in
     let l = c.loop-i in (
-      search rules,
-      rw add-one (c.instant_frame-t.ensures.0 ∙ ap (instant_frame (length a.mixes.now) a.mix a.line.now a.values.now) l.invariant.1),
+      rw add-one (c.instant_frame-t.ensures.0 ∙ ap (instant_frame (length a.mixes.now) a.mix a.line.now a.values.now) l.invariant.0),
       c.instant_frame-t.ensures.1,
     )
 
@@ -26,5 +25,5 @@ pub returns : goal.returns
 unfolding instant_sum_after
 returns c =
     let a = c.args in
-    let all : c.loop-i.i ≡ a.rounds = omega arith in
-    ap (λ (t : Turn). t.sum) (c.loop-i.invariant.1 ∙ ap (instant_turns a.rule a.mixes.now a.mix a.line.now a.values.now) all)
+    let all : c.loop-i._i ≡ a.rounds = omega arith in
+    ap (λ (t : Turn). t.sum) (c.loop-i.invariant.0 ∙ ap (instant_turns a.rule a.mixes.now a.mix a.line.now a.values.now) all)

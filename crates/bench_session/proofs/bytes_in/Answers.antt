@@ -3,7 +3,6 @@ use mathlib.Core.Path.{◌≡◌, sym, ap, ◌∙◌}
 use mathlib.Core.List.{List}
 use native.Mathlib.Numerals.{add-one}
 use native.Mathlib.Omega.{arith}
-use borrow.Author.Rules.{rules}
 use lib.ListN.{length, get_or, drop}
 use lib.Seq.{drop-cons, drop-length}
 use Rattle.bench_session.specs.Frames.{byte_in, bytes_in}
@@ -13,17 +12,17 @@ step : (sum : ℕ) (l : List ℕ) (i : ℕ) → i < length l → bytes_in sum (d
 unfolding bytes_in
 step sum l i h = rw add-one (ap (bytes_in sum) (drop-cons l i 0 h))
 
-pub loop-i-preserved : goal.loop-i-preserved
-loop-i-preserved c =
+pub loop-b-preserved : goal.loop-b-preserved
+loop-b-preserved c =
     let b = c.args.bytes.now in
-    let l = c.loop-i in
-    let next = ap (λ (n : ℕ). bytes_in n (drop (l.i + 1) b)) (sym c.byte_in-total.ensures.0) in
-    (search rules, l.invariant.1 ∙ step l.total b l.i c.loop-i-test.true ∙ next, c.byte_in-total.ensures.1)
+    let l = c.loop-b in
+    let next = ap (λ (n : ℕ). bytes_in n (drop (l.b-index + 1) b)) (sym c.byte_in-total.ensures.0) in
+    (l.invariant.0 ∙ step l.total b l.b-index c.loop-b-test.true ∙ next, c.byte_in-total.ensures.1)
 
 pub returns : goal.returns
 unfolding bytes_in
 returns c =
     let b = c.args.bytes.now in
-    let l = c.loop-i in
-    let all : l.i ≡ length b = omega arith in
-    (sym (l.invariant.1 ∙ ap (bytes_in l.total) (ap (λ (n : ℕ). drop n b) all ∙ drop-length b)), l.invariant.2)
+    let l = c.loop-b in
+    let all : l.b-index ≡ length b = omega arith in
+    (sym (l.invariant.0 ∙ ap (bytes_in l.total) (ap (λ (n : ℕ). drop n b) all ∙ drop-length b)), l.invariant.1)

@@ -1,11 +1,7 @@
 -- `bench_session::each_heard` meets its contract. The loop's invariant: what the blocks passed make.
-use Prim.Native.Nat.{◌-◌, ◌≤◌}
 use mathlib.Core.Path.{◌≡◌}
 use Rattle.bench_session.specs.Frames.{each_heard}
 use Rattle.bench_session.proofs.each_heard.Given as goal
 
 abbrev pub invariant-loop-k : goal.invariant-loop-k
-invariant-loop-k l = (l.k ≤ l.count) × (l.t ≡ each_heard l.block l.initial.t l.k)
-
-abbrev pub decreases-loop-k : goal.decreases-loop-k
-decreases-loop-k l = l.count - l.k
+invariant-loop-k l = l.t ≡ each_heard l.block l.initial.t l.k

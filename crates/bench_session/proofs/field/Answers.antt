@@ -1,7 +1,6 @@
 use Prim.Native.Nat.{◌+◌, ◌*◌}
 use mathlib.Core.Path.{refl, ap, ◌∙◌}
 use native.Mathlib.Numerals.{add-one}
-use borrow.Author.Rules.{rules}
 use Rattle.session.specs.declared.Session.{Session}
 use Rattle.session.specs.declared.Lined.{Lined}
 use Rattle.session.specs.Session.{line_of}
@@ -10,11 +9,11 @@ use Rattle.bench_session.proofs.field.Goals as goal
 
 pub loop-k-init : goal.loop-k-init
 unfolding field_lines
-loop-k-init c = (search rules, refl)
+loop-k-init c = refl
 
 pub loop-k-preserved : goal.loop-k-preserved
 unfolding field_lines
 loop-k-preserved c =
     let a = c.args in
     let l = c.loop-k in
-    (search rules, rw add-one (ap (λ (r : Lined). r.session) (c.line-r.ensures.0 ∙ ap (λ (t : Session). line_of t (a.first + a.step * l.k) a.line.now) l.invariant.1)))
+    rw add-one (ap (λ (r : Lined). r.session) (c.line.ensures.0 ∙ ap (λ (t : Session). line_of t (a.first + a.step * l.k) a.line.now) l.invariant))

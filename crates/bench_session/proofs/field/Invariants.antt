@@ -1,11 +1,7 @@
 -- `bench_session::field` meets its contract. The loop's invariant: what the lines passed make.
-use Prim.Native.Nat.{◌-◌, ◌≤◌}
 use mathlib.Core.Path.{◌≡◌}
 use Rattle.bench_session.specs.Frames.{field_lines}
 use Rattle.bench_session.proofs.field.Given as goal
 
 abbrev pub invariant-loop-k : goal.invariant-loop-k
-invariant-loop-k l = (l.k ≤ 16) × (l.t ≡ field_lines l.initial.t l.first l.step l.line l.k)
-
-abbrev pub decreases-loop-k : goal.decreases-loop-k
-decreases-loop-k l = 16 - l.k
+invariant-loop-k l = l.t ≡ field_lines l.initial.t l.first l.step l.line l.k

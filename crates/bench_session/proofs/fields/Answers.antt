@@ -35,8 +35,8 @@ field-requires c =
     let n = subst Few (sym c.row_of-row.ensures) (few c.args.format) in
     (n.first2, n.step)
 
-pub returns : goal.returns
-returns c =
+pub returns-else-row-eq0 : goal.returns-else-row-eq0
+returns-else-row-eq0 c =
     let a = c.args in
     let row = c.row_of-row in
     let r : Row = row.result in

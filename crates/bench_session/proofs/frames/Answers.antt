@@ -9,15 +9,14 @@ use Rattle.bench_session.proofs.frames.Goals as goal
 
 pub loop-i-init : goal.loop-i-init
 unfolding turns
-loop-i-init c = (search rules, refl, search rules)
+loop-i-init c = (refl, search rules)
 
 pub loop-i-preserved : goal.loop-i-preserved
 unfolding turns
 loop-i-preserved c =
     let a = c.args in
     let l = c.loop-i in (
-      search rules,
-      rw add-one (c.frame_at-t.ensures.0 ∙ ap (frame_of a.load (line_at a.even.now a.odd.now (turn_at (row_of a.load.format) l.i)) a.block.now) l.invariant.1),
+      rw add-one (c.frame_at-t.ensures.0 ∙ ap (frame_of a.load (line_at a.even.now a.odd.now (turn_at (row_of a.load.format) l.i)) a.block.now) l.invariant.0),
       c.frame_at-t.ensures.1,
     )
 
@@ -26,4 +25,4 @@ unfolding sum_after
 returns c =
     let a = c.args in
     let all : c.loop-i.i ≡ a.rounds = omega arith in
-    ap (λ (t : Turn). t.sum) (c.loop-i.invariant.1 ∙ ap (turns a.load a.even.now a.odd.now a.block.now a.s) all)
+    ap (λ (t : Turn). t.sum) (c.loop-i.invariant.0 ∙ ap (turns a.load a.even.now a.odd.now a.block.now a.s) all)

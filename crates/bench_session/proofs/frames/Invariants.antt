@@ -1,11 +1,8 @@
 -- `bench_session::frames` meets its contract. The loop's invariant: what the frames passed give.
-use Prim.Native.Nat.{◌-◌, ◌≤◌, ◌<◌}
+use Prim.Native.Nat.{◌<◌}
 use mathlib.Core.Path.{◌≡◌}
 use Rattle.bench_session.specs.Frames.{turns}
 use Rattle.bench_session.proofs.frames.Given as goal
 
 abbrev pub invariant-loop-i : goal.invariant-loop-i
-invariant-loop-i l = (l.i ≤ l.rounds) × (l.t ≡ turns l.load l.even l.odd l.block l.initial.t.session l.i) × (l.t.sum < 4294967296)
-
-abbrev pub decreases-loop-i : goal.decreases-loop-i
-decreases-loop-i l = l.rounds - l.i
+invariant-loop-i l = (l.t ≡ turns l.load l.even l.odd l.block l.initial.t.session l.i) × (l.t.sum < 4294967296)

@@ -1,11 +1,7 @@
 -- `bench_session::heard` meets its contract. The loop's invariant: what the blocks passed make.
-use Prim.Native.Nat.{◌-◌, ◌≤◌}
 use mathlib.Core.Path.{◌≡◌}
 use Rattle.bench_session.specs.Frames.{sounds}
 use Rattle.bench_session.proofs.heard.Given as goal
 
 abbrev pub invariant-loop-k : goal.invariant-loop-k
-invariant-loop-k l = (l.k ≤ l.n) × (l.t ≡ sounds l.count l.block l.initial.t l.k)
-
-abbrev pub decreases-loop-k : goal.decreases-loop-k
-decreases-loop-k l = l.n - l.k
+invariant-loop-k l = l.t ≡ sounds l.count l.block l.initial.t l._k

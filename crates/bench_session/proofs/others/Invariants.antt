@@ -1,11 +1,7 @@
 -- `bench_session::others` meets its contract. The loop's invariant: what the lines passed make.
-use Prim.Native.Nat.{◌-◌, ◌≤◌}
 use mathlib.Core.Path.{◌≡◌}
 use Rattle.bench_session.specs.Frames.{other_lines}
 use Rattle.bench_session.proofs.others.Given as goal
 
 abbrev pub invariant-loop-k : goal.invariant-loop-k
-invariant-loop-k l = (l.k ≤ l.n) × (l.t ≡ other_lines l.initial.t l.line l.k)
-
-abbrev pub decreases-loop-k : goal.decreases-loop-k
-decreases-loop-k l = l.n - l.k
+invariant-loop-k l = l.t ≡ other_lines l.initial.t l.line l._k

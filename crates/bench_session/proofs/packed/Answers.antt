@@ -11,6 +11,6 @@ unfolding packed_in
 returns c =
     let a = c.args in
     let p = c.pack-packed in (
-      ap₂ (λ (s : Session) (n : ℕ). record { session = s; sum = n }) (ap (λ (k : Packed). k.session) p.ensures.0) (c.bytes_in-total.ensures.0 ∙ ap (bytes_in a.sum) p.ensures.1),
-      c.bytes_in-total.ensures.1,
+      ap₂ (λ (s : Session) (n : ℕ). record { session = s; sum = n }) (ap (λ (k : Packed). k.session) p.ensures.0) (c.bytes_in.ensures.0 ∙ ap (bytes_in a.sum) p.ensures.1),
+      c.bytes_in.ensures.1,
     )

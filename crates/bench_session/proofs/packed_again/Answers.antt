@@ -6,14 +6,13 @@ use Rattle.bench_session.proofs.packed_again.Goals as goal
 
 pub loop-i-init : goal.loop-i-init
 unfolding packings
-loop-i-init c = (search rules, search rules, search rules)
+loop-i-init c = (search rules, search rules)
 
 pub loop-i-preserved : goal.loop-i-preserved
 unfolding packings
 loop-i-preserved c =
-    let p = c.pack-packed in
+    let p = c.pack in
     let l = c.loop-i in (
-      search rules,
-      rw add-one (c.bytes_in-sum.ensures.0 ∙ ap₂ bytes_in l.invariant.1 p.ensures.1),
+      rw add-one (c.bytes_in-sum.ensures.0 ∙ ap₂ bytes_in l.invariant.0 p.ensures.1),
       c.bytes_in-sum.ensures.1,
     )

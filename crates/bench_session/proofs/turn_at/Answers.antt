@@ -20,8 +20,8 @@ returns-then-row-eq0 c =
     let row = c.row_of-row in
     one_field row.result i c.if-row-eq0.true ∙ ap (λ (r : Row). turn_at r i) row.ensures
 
-pub returns : goal.returns
-returns c =
+pub returns-else-row-eq0 : goal.returns-else-row-eq0
+returns-else-row-eq0 c =
     let i = c.args.i in
     let row = c.row_of-row in
     two_fields row.result i c.if-row-eq0.false ∙ ap (λ (r : Row). turn_at r i) row.ensures

@@ -3,7 +3,6 @@ use mathlib.Core.Path.{◌≡◌, refl, ◌∙◌}
 use mathlib.Core.Bool.{cond}
 use native.Mathlib.Omega.{arith}
 use native.Mathlib.Numerals.{add-one}
-use borrow.Author.Rules.{rules}
 use borrow.Author.Tests.{lt-ltb, le-ltb}
 use lib.Dec.{ltb}
 use lib.ListN.{length}
@@ -23,7 +22,7 @@ from_is c =
 
 pub loop-i-init : goal.loop-i-init
 unfolding after_lines
-loop-i-init c = (search rules, simp c.fresh-p.ensures)
+loop-i-init c = simp c.fresh.ensures
 
 pub loop-i-preserved : goal.loop-i-preserved
 unfolding after_lines half_at
@@ -32,4 +31,4 @@ loop-i-preserved c =
     let l = j.loop-i in
     let n = length j.args.lines.now in
     let e : j.if-i-lt2.from + n / 2 - j.if-i-lt2.from ≡ n / 2 = omega arith in
-    (search rules, c.step-a.ensures ∙ rw (add-one, e, l.invariant.1, from_is (goal.at.loop-i-preserved c).Joined-i-lt2) refl)
+    c.step-a.ensures ∙ rw (add-one, e, l.invariant, from_is (goal.at.loop-i-preserved c).Joined-i-lt2) refl

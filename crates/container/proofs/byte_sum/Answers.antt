@@ -1,9 +1,11 @@
-use native.Mathlib.Omega.{arith}
-use Rattle.laws.proofs.Sums.{sum_step, sum_end}
+-- `container::byte_sum` meets its contract.
+use Rattle.std.proofs.Common.{ℕ, ◌+◌, ◌%◌, rules, tests, ◌∙◌}
+use Rattle.std.proofs.lemmas.Iterator.{YieldsList-from_slice}
+use Rattle.std.proofs.lemmas.Iterator.Consumers.{fold_from_yields_List}
+use Rattle.container.proofs.Bytes.{fold_sum}
 use Rattle.container.proofs.byte_sum.Goals as goal
 
-pub loop-i-preserved : goal.loop-i-preserved
-loop-i-preserved c = omega (arith, sum_step c.args.s.now c.loop-i.i c.loop-i-test.true)
-
 pub returns : goal.returns
-returns c = omega (arith, sum_end c.args.s.now c.loop-i.i c.loop-i-test.false)
+returns c =
+    fold_from_yields_List _ (λ (u b : ℕ). (u + b) % 256) 0 _ c.fold.ensures.ran (YieldsList-from_slice c.args.s.now cc) (λ u b r q k. search (rules, tests))
+    ∙ fold_sum c.args.s.now

@@ -9,18 +9,19 @@ use Rattle.records.specs.declared.Record.TheVariants.{Whole, Cut, End}
 use Rattle.records.specs.Records.{record_at}
 use Rattle.records.proofs.Within.{whole_within}
 use Rattle.session.specs.declared.Session.{Session}
-use Rattle.feed.specs.Feed.{record_fed, front}
+use Rattle.feed.specs.Feed.{fed, front}
+use Rattle.answers.specs.Steps.{record_fed}
 use Rattle.feed.proofs.Steps.{does_as}
 use Rattle.feed.proofs.answer_front.Goals as goal
 use Rattle.feed.proofs.answer_front.Goals.{In-Whole}
 
 -- what is done is what the record at the front asks for
-fronts : (s : Session) (bytes : List ℕ) (r : Record) → record_at bytes 0 ≡ r → record_fed s bytes r ≡ front s bytes
+fronts : (s : Session) (bytes : List ℕ) (r : Record) → record_at bytes 0 ≡ r → record_fed fed s bytes r ≡ front s bytes
 unfolding front
-fronts s bytes r e = ap (record_fed s bytes) (sym e)
+fronts s bytes r e = ap (record_fed fed s bytes) (sym e)
 
 whole : (c : goal.In-Whole) → record_at c.args.bytes.now 0 ≡ Whole c.in-Whole.tag c.in-Whole.start c.in-Whole.end
-whole c = sym c.record_at-r.ensures ∙ c.in-Whole.is
+whole c = sym c.record_at.ensures ∙ c.in-Whole.is
 
 within : (c : goal.In-Whole) → (c.in-Whole.start ≤ c.in-Whole.end) × (c.in-Whole.end ≤ length c.args.bytes.now)
 within c = whole_within c.args.bytes.now 0 _ _ _ (whole c)
@@ -40,8 +41,8 @@ returns-in-Whole c = does_as _ _ _ _ (fronts c.args.s c.args.bytes.now _ (whole 
 
 pub returns-in-Cut : goal.returns-in-Cut
 unfolding record_fed
-returns-in-Cut c = does_as _ _ _ _ (fronts c.args.s c.args.bytes.now Cut (sym c.record_at-r.ensures ∙ c.in-Cut.is)) (c.bad.ensures, c.requires)
+returns-in-Cut c = does_as _ _ _ _ (fronts c.args.s c.args.bytes.now Cut (sym c.record_at.ensures ∙ c.in-Cut.is)) (c.bad.ensures, c.requires)
 
 pub returns-in-End : goal.returns-in-End
 unfolding record_fed
-returns-in-End c = does_as _ _ _ _ (fronts c.args.s c.args.bytes.now End (sym c.record_at-r.ensures ∙ c.in-End.is)) (refl, c.requires)
+returns-in-End c = does_as _ _ _ _ (fronts c.args.s c.args.bytes.now End (sym c.record_at.ensures ∙ c.in-End.is)) (refl, c.requires)

@@ -2,7 +2,7 @@
 use mathlib.Core.Path.{ap}
 use borrow.Author.Tests.{lt-ltb, le-ltb}
 use Rattle.answers.specs.declared.Answer.{Answer}
-use Rattle.feed.specs.declared.Answered.{Answered}
+use Rattle.feed.specs.Calls.{Answered}
 use Rattle.feed.specs.Feed.{fed, leaves}
 use Rattle.feed.proofs.call.Goals as goal
 
@@ -12,4 +12,4 @@ returns-then-tag-lt32 c = rw (lt-ltb _ 0x20 c.if-tag-lt32.true) c.on_session.ens
 
 pub returns : goal.returns
 unfolding fed leaves
-returns c = rw (le-ltb _ 0x20 c.if-tag-lt32.false) (ap {B = Answered} (λ (x : Answer). record { answer = x; session = c.args.s }) c.alone-answer.ensures.0, c.alone-answer.ensures.1)
+returns c = rw (le-ltb _ 0x20 c.if-tag-lt32.false) (ap {B = Answered} (λ (x : Answer). record { answer = x; after = c.args.s }) c.alone.ensures.0, c.alone.ensures.1)

@@ -4,11 +4,13 @@ use mathlib.Core.Path.{ap, ◌∙◌}
 use native.Mathlib.Omega.{arith}
 use lib.ListN.{length}
 use Rattle.text.proofs.Pieces.{put_as, put_front}
-use Rattle.feed.specs.declared.Answered.{Answered}
-use Rattle.feed.specs.declared.Fed.{Fed}
+use Rattle.session.specs.declared.Session.{Session}
+use Rattle.answers.specs.declared.Fed.{Fed}
 use Rattle.answers.specs.Lines.{said_of, line_of}
 use Rattle.answers.proofs.Sizes.{quiet_said}
-use Rattle.feed.specs.Feed.{step_line, line_next, front, fed_of}
+use Rattle.feed.specs.Calls.{Answered}
+use Rattle.feed.specs.Feed.{line_next, front}
+use Rattle.answers.specs.Steps.{step_line, fed_of}
 use Rattle.feed.proofs.Kept.{quiet}
 use Rattle.feed.proofs.Sizes.{next_fits}
 use Rattle.feed.proofs.next.Goals as goal
@@ -21,8 +23,8 @@ returns c =
     let bytes = c.args.bytes.now in
     let t = front s bytes in
     let said = ap (λ (a : Answered). said_of a.answer f.new.work) f.ensures.0 ∙ ap (said_of t.answered.answer) f.ensures.1 ∙ quiet_said t.answered.answer t.left (quiet s bytes) in
-    let q = put_front (put_as said c.say-size.ensures) (omega (arith, next_fits s bytes)) in (
-      ap {B = Fed} (λ (n : ℕ). record { size = n; answer = f.result.answer; session = f.result.session }) q.0
-          ∙ ap {B = Fed} (λ (a : Answered). record { size = length (line_of t.answered.answer t.left); answer = a.answer; session = a.session }) f.ensures.0,
+    let q = put_front (put_as said c.say.ensures) (omega (arith, next_fits s bytes)) in (
+      ap {B = Fed Session} (λ (n : ℕ). record { size = n; answer = f.result.answer; after = f.result.after }) q.0
+          ∙ ap {B = Fed Session} (λ (a : Answered). record { size = length (line_of t.answered.answer t.left); answer = a.answer; after = a.after }) f.ensures.0,
       q.1,
     )

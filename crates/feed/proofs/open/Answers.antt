@@ -6,4 +6,4 @@ use Rattle.feed.proofs.open.Goals as goal
 
 pub returns : goal.returns
 unfolding opening
-returns c = ap (λ (b : Begun). b.session) c.setup-b.ensures
+returns c = ap (λ (b : Begun). b.session) c.setup.ensures

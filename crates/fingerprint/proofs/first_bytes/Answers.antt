@@ -1,13 +1,11 @@
 -- `fingerprint::first_bytes` meets its contract.
-use mathlib.Core.Path.{◌≡◌, ◌∙◌}
-use native.Mathlib.Omega.{arith}
-use lib.ListN.{length}
-use Rattle.fingerprint.proofs.Bytes.{first_is}
-use borrow.Author.Rules.{rules}
+use Prim.Native.Nat.{ℕ}
+use mathlib.Core.Path.{ap₂}
+use mathlib.Core.List.{List, ◌++◌}
+use Rattle.std.proofs.lemmas.List.{drop-replicate}
+use Rattle.fingerprint.specs.State.{first_bytes}
 use Rattle.fingerprint.proofs.first_bytes.Goals as goal
 
 pub returns : goal.returns
-returns c =
-    let a = c.args in
-    let size : length a.old ≡ 32 = search rules in
-    c.copy_at.ensures ∙ first_is a.n a.old size (omega arith)
+unfolding first_bytes
+returns c = ap₂ (λ (xs ys : List ℕ). xs ++ ys) c.copy_from_slice.ensures.after (drop-replicate c.args.n 5 0)

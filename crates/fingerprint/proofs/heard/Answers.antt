@@ -1,5 +1,5 @@
 use Prim.Native.Nat.{ℕ, ◌+◌, ◌*◌, ◌≤◌}
-use mathlib.Core.Path.{◌≡◌, refl, ap, ◌∙◌}
+use mathlib.Core.Path.{◌≡◌, ap, ◌∙◌}
 use mathlib.Core.List.{◌∷◌}
 use native.Mathlib.Nat.{mul-le-mul_right}
 use native.Mathlib.Numerals.{add-one}
@@ -7,7 +7,8 @@ use native.Mathlib.Omega.{arith}
 use lib.ListN.{length}
 use Rattle.sound.specs.Mix.{instant_bytes, instant_value}
 use Rattle.fingerprint.specs.State.{after, values_at, values_of, heard_of}
-use Rattle.fingerprint.specs.Parts.{with_filters_of}
+use Rattle.fingerprint.specs.declared.Filters.{Filters}
+use Rattle.fingerprint.specs.Parts.{filters_of, with_filters_of}
 use Rattle.fingerprint.proofs.Counts.{instants_fit}
 use Rattle.fingerprint.proofs.Steps.{kept_on, run_on}
 use Rattle.fingerprint.proofs.heard.Goals as goal
@@ -24,8 +25,8 @@ room c m h =
     omega (arith, mul-le-mul_right size.result h)
 
 pub loop-i-init : goal.loop-i-init
-unfolding with_filters_of after values_at
-loop-i-init c = (omega arith, omega arith, refl)
+unfolding with_filters_of filters_of after values_at
+loop-i-init c = (omega arith, omega arith, ap (λ (v : Filters). with_filters_of c.args.f v c.args.f.wait) c.filters_of-v.ensures)
 
 pub overflow_add-at : goal.overflow_add-at
 overflow_add-at c = omega (arith, room (goal.at.overflow_add-at c).At-loop-i 1 (omega arith))

@@ -8,6 +8,7 @@ use Rattle.floats.specs.Instants.{kind_of, has_nan}
 use Rattle.fingerprint.specs.declared.Fingerprint.{Fingerprint}
 use Rattle.fingerprint.specs.State.{store_number, instant_number}
 use Rattle.fingerprint.proofs.instant_number.Goals as goal
+use Rattle.fingerprint.proofs.instant_number.Goals.{then-has_nan-via-then-has_nan, then-has_nan-via-else-has_nan+then-kind-f}
 
 -- its numbers, in their order
 module _ (d : ℕ) (f : Fingerprint) (i : Instant) where
@@ -24,10 +25,12 @@ module _ (d : ℕ) (f : Fingerprint) (i : Instant) where
   taken e k = rw (e, eq-eqb (kind_of i) f.mix k)
 
 pub returns-then-has_nan : goal.returns-then-has_nan
-returns-then-has_nan c = let a = c.args in nan_14 a.d a.f a.i (sym c.has_nan.ensures ∙ c.if-has_nan.true)
-
-pub returns-then-kind-f : goal.returns-then-kind-f
-returns-then-kind-f c = let a = c.args in kind_14 a.d a.f a.i (λ e. c.if-kind-f.true (c.kind.ensures ∙ e))
+returns-then-has_nan c =
+    let a = c.args in
+    elim c.then-has_nan.branch [
+      | then-has_nan-via-then-has_nan w ↦ nan_14 a.d a.f a.i (sym c.has_nan.ensures ∙ w.if-has_nan.true)
+      | then-has_nan-via-else-has_nan+then-kind-f w ↦ kind_14 a.d a.f a.i (λ e. w.if-kind-f.true (w.kind.ensures ∙ e))
+    ]
 
 pub returns : goal.returns
 returns c =

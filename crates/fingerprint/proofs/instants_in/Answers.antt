@@ -11,6 +11,6 @@ returns-then-size-eq0 c =
     let len = c.args.len in
     sym (ap (◌/◌ len) (sym c.instant_bytes-size.ensures ∙ c.if-size-eq0.true) ∙ div-zero len)
 
-pub returns : goal.returns
+pub returns-else-size-eq0 : goal.returns-else-size-eq0
 unfolding instants
-returns c = ap (◌/◌ c.args.len) c.instant_bytes-size.ensures
+returns-else-size-eq0 c = ap (◌/◌ c.args.len) c.instant_bytes-size.ensures

@@ -1,30 +1,32 @@
 -- `fingerprint::step` meets its contract.
 use Prim.Native.Nat.{ℕ, ◌-◌}
-use mathlib.Core.Path.{ap, ap₂, ◌∙◌}
+use mathlib.Core.Path.{◌≡◌, ap, ap₂, ◌∙◌}
 use lib.Dec.{ltb}
 use Rattle.fingerprint.specs.declared.Fingerprint.{Fingerprint}
 use Rattle.fingerprint.specs.declared.Filters.{Filters}
 use Rattle.fingerprint.specs.State.{pushed_of}
-use Rattle.fingerprint.specs.Parts.{filters_of, with_filters_of}
+use Rattle.fingerprint.specs.Parts.{filters_of, next_filters, with_filters_of}
 use Rattle.fingerprint.proofs.Steps.{step_kept, step_passed}
 use Rattle.fingerprint.proofs.step.Goals as goal
 
-pub returns-then-wait-eq0 : goal.returns-then-wait-eq0
+pub returns-then-f-eq0 : goal.returns-then-f-eq0
 unfolding with_filters_of filters_of
-returns-then-wait-eq0 c =
+returns-then-f-eq0 c =
     let a = c.args in
     let p = c.kept in
     let v = c.next_filters-v in
+    let e : v.result ≡ next_filters (filters_of a.f) a.a = v.ensures ∙ ap (λ (u : Filters). next_filters u a.a) c.filters_of.ensures in
     c.with_filters.ensures
     ∙ (ap₂ (λ (g : Fingerprint) (w : ℕ). with_filters_of g v.result w) p.ensures c.less_one.ensures
-    ∙ (ap (λ (u : Filters). with_filters_of (pushed_of a.f (ltb u.mean u.envelope)) u (a.d - 1)) v.ensures
-    ∙ step_kept a.d a.f (filters_of a.f) a.f.wait a.a c.if-wait-eq0.true))
+    ∙ (ap (λ (u : Filters). with_filters_of (pushed_of a.f (ltb u.mean u.envelope)) u (a.d - 1)) e
+    ∙ step_kept a.d a.f (filters_of a.f) a.f.wait a.a c.if-f-eq0.true))
 
-pub returns-else-wait-eq0 : goal.returns-else-wait-eq0
+pub returns-else-f-eq0 : goal.returns-else-f-eq0
 unfolding with_filters_of filters_of
-returns-else-wait-eq0 c =
+returns-else-f-eq0 c =
     let a = c.args in
     let v = c.next_filters-v in
-    c.with_filters-else-wait-eq0.ensures
-    ∙ (ap (λ (u : Filters). with_filters_of a.f u (a.f.wait - 1)) v.ensures
-    ∙ step_passed a.d a.f (filters_of a.f) a.f.wait a.a c.if-wait-eq0.false)
+    let e : v.result ≡ next_filters (filters_of a.f) a.a = v.ensures ∙ ap (λ (u : Filters). next_filters u a.a) c.filters_of.ensures in
+    c.with_filters-else-f-eq0.ensures
+    ∙ (ap (λ (u : Filters). with_filters_of a.f u (a.f.wait - 1)) e
+    ∙ step_passed a.d a.f (filters_of a.f) a.f.wait a.a c.if-f-eq0.false)

@@ -4,15 +4,17 @@ use native.Mathlib.Omega.{arith}
 use Rattle.fingerprint.specs.State.{holding, without}
 use Rattle.fingerprint.proofs.Taking.{take_many, take_short, can_take_held, take_is}
 use Rattle.fingerprint.proofs.take.Goals as goal
+use Rattle.fingerprint.proofs.take.Goals.{then-n-gt5-via-then-n-gt5, then-n-gt5-via-else-n-gt5+then-f-n}
 
 pub returns-then-n-gt5 : goal.returns-then-n-gt5
-returns-then-n-gt5 c = take_many c.args.f c.args.n (omega arith)
-
-pub returns-then-held-n : goal.returns-then-held-n
-returns-then-held-n c = take_short c.args.f c.args.n (omega arith) (omega arith)
+returns-then-n-gt5 c =
+    elim c.then-n-gt5.branch [
+      | then-n-gt5-via-then-n-gt5 w ↦ take_many c.args.f c.args.n w.if-n-gt5.true
+      | then-n-gt5-via-else-n-gt5+then-f-n w ↦ take_short c.args.f c.args.n w.if-n-gt5.false w.if-f-n.true
+    ]
 
 pub returns : goal.returns
 unfolding without holding
 returns c =
     let a = c.args in
-    rw (c.shift-left.ensures, c.first_bytes-out.ensures) (sym (take_is a.f a.n (can_take_held a.f a.n (omega arith) (omega arith))))
+    rw (c.shift-bytes.ensures, c.first_bytes-out.ensures) (sym (take_is a.f a.n (can_take_held a.f a.n (omega arith) (omega arith))))

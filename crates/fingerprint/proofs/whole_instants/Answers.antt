@@ -12,6 +12,6 @@ returns-then-size-eq0 c =
     let len = c.args.len in
     sym (ap (λ (m : ℕ). eqb (len % m) 0) (sym c.instant_bytes-size.ensures ∙ c.if-size-eq0.true) ∙ ap (λ (m : ℕ). eqb m 0) (mod-zero len))
 
-pub returns : goal.returns
+pub returns-else-size-eq0 : goal.returns-else-size-eq0
 unfolding whole_instants
-returns c = ap (λ (m : ℕ). eqb (c.args.len % m) 0) c.instant_bytes-size.ensures
+returns-else-size-eq0 c = ap (λ (m : ℕ). eqb (c.args.len % m) 0) c.instant_bytes-size.ensures

@@ -1,16 +1,18 @@
 -- `flat::flatten` meets its contract.
-use mathlib.Core.Path.{◌≡◌, refl}
+use mathlib.Core.Path.{◌≡◌, refl, ◌∙◌}
+use mathlib.Core.Bool.{Bool, true, false, cond}
+use mir.Val.{bool_byte}
 use lib.ListN.{length, replicate}
 use Rattle.flat.proofs.Places.{flat_put}
 use borrow.Author.Rules.{rules}
 use Rattle.flat.proofs.flatten.Goals as goal
-use Rattle.flat.proofs.flatten.Goals.{Start}
 
-twenty : (c : goal.Start) → length c.args.c.id ≡ 20
-twenty c = search rules
+byte_of : (on : Bool) → bool_byte on ≡ cond on 1 0
+byte_of true = refl
+byte_of false = refl
 
 pub returns : goal.returns
 returns c =
-    let s = c in
-    flat_put s.args.c (replicate 283 0) _ _ _ _ _ _ _ refl (twenty (goal.at.returns c).Start) c.put_prints.ensures.0 c.flag.ensures.0 c.video_bytes-values.ensures
-    c.copy_at.ensures c.copy_at-2.ensures c.copy_at-3.ensures c.copy_at-4.ensures c.put_prints.ensures.1
+    let twenty : length c.args.c.id ≡ 20 = search rules in
+    flat_put c.args.c (replicate 283 0) _ _ _ _ _ _ _ refl twenty c.put_prints.ensures.0 (c.from.ensures ∙ byte_of c.args.c.hasid) c.video_bytes.ensures
+    c.copy_at.ensures c.copy_at-2.ensures c.copy_at-3.ensures refl c.put_prints.ensures.1

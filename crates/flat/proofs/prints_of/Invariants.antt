@@ -1,5 +1,4 @@
 -- `flat::prints_of` meets its contract. The loop's invariant: the places filled so far.
-use Prim.Native.Nat.{◌-◌, ◌≤◌}
 use mathlib.Core.Path.{◌≡◌}
 use mathlib.Core.List.{◌++◌}
 use lib.ListN.{take, drop, replicate}
@@ -8,7 +7,4 @@ use Rattle.flat.specs.Unflat.{prints_of}
 use Rattle.flat.proofs.prints_of.Given as goal
 
 abbrev pub invariant-loop-k : goal.invariant-loop-k
-invariant-loop-k l = (l.k ≤ 32) × (l.prints ≡ take l.k (prints_of 32 l.b) ++ drop l.k (replicate 32 blank_print))
-
-abbrev pub decreases-loop-k : goal.decreases-loop-k
-decreases-loop-k l = 32 - l.k
+invariant-loop-k l = l.prints ≡ take l.k (prints_of 32 l.b) ++ drop l.k (replicate 32 blank_print)

@@ -1,5 +1,5 @@
 -- `flat::put_prints` meets its contract. The loop's invariant: the fingerprints still to be stored, stored into out as it now is, give the promised bytes.
-use Prim.Native.Nat.{◌+◌, ◌-◌, ◌*◌, ◌≤◌}
+use Prim.Native.Nat.{◌+◌, ◌*◌}
 use mathlib.Core.Path.{◌≡◌}
 use lib.ListN.{length, drop}
 use lib.Seq.{sets}
@@ -7,7 +7,4 @@ use Rattle.flat.specs.Flat.{flat_prints}
 use Rattle.flat.proofs.put_prints.Given as goal
 
 abbrev pub invariant-loop-k : goal.invariant-loop-k
-invariant-loop-k l = (l.k ≤ 32) × (length l.out ≡ length l.initial.out) × (length (flat_prints l.prints) ≡ 8 * l.k + length (flat_prints (drop l.k l.prints))) × (sets l.initial.out 27 (flat_prints l.prints) ≡ sets l.out (27 + 8 * l.k) (flat_prints (drop l.k l.prints)))
-
-abbrev pub decreases-loop-k : goal.decreases-loop-k
-decreases-loop-k l = 32 - l.k
+invariant-loop-k l = (length (flat_prints l.print-items) ≡ 8 * l.k + length (flat_prints (drop l.k l.print-items))) × (sets l.initial.out 27 (flat_prints l.print-items) ≡ sets l.out (27 + 8 * l.k) (flat_prints (drop l.k l.print-items)))

@@ -1,28 +1,33 @@
--- `flat::video_of` meets its contract: each answer by the tests that led to it.
+-- `flat::video_of` meets its contract.
+use borrow.Author.Rules.{rules}
 use Rattle.laws.proofs.Tests.{tests}
 use Rattle.flat.specs.Unflat.{video_of}
 use Rattle.flat.proofs.video_of.Goals as goal
 
-pub returns-then-n-eq2 : goal.returns-then-n-eq2
+pub returns-in-2-default-default : goal.returns-in-2-default-default
 unfolding video_of
-returns-then-n-eq2 c = search tests
+returns-in-2-default-default c = search (rules, tests)
 
-pub returns-then-b-ne0 : goal.returns-then-b-ne0
+pub returns-in-1-default-eq0 : goal.returns-in-1-default-eq0
 unfolding video_of
-returns-then-b-ne0 c = rw c.no_values.ensures (search tests)
+returns-in-1-default-eq0 c = search (rules, tests)
 
-pub returns-then-n-eq1 : goal.returns-then-n-eq1
+pub returns-in-0-eq0-eq0 : goal.returns-in-0-eq0-eq0
 unfolding video_of
-returns-then-n-eq1 c = search tests
+returns-in-0-eq0-eq0 c = search (rules, tests)
 
-pub returns-then-a-ne0 : goal.returns-then-a-ne0
+pub returns-in_default : goal.returns-in_default
 unfolding video_of
-returns-then-a-ne0 c = rw c.no_values-then-a-ne0.ensures (search tests)
+returns-in_default c = search (rules, tests)
 
-pub returns-then-n-ne0 : goal.returns-then-n-ne0
+pub returns-in_default-2 : goal.returns-in_default-2
 unfolding video_of
-returns-then-n-ne0 c = rw c.no_values-then-n-ne0.ensures (search tests)
+returns-in_default-2 c = search (rules, tests)
 
-pub returns : goal.returns
+pub returns-in_default-3 : goal.returns-in_default-3
 unfolding video_of
-returns c = search tests
+returns-in_default-3 c = search (rules, tests)
+
+pub returns-in_default-4 : goal.returns-in_default-4
+unfolding video_of
+returns-in_default-4 c = search (rules, tests)

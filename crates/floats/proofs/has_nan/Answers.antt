@@ -21,15 +21,15 @@ five false false false d e = two d e
 
 pub returns-in-Mono : goal.returns-in-Mono
 unfolding has_nan
-returns-in-Mono c = c.is_nan.ensures ∙ one (is_nan c.in-Mono.x) ∙ sym (ap has_nan c.in-Mono.is)
+returns-in-Mono c = c.is_nan.ensures.value ∙ one (is_nan c.in-Mono.x) ∙ sym (ap has_nan c.in-Mono.is)
 
 pub returns-in-Stereo : goal.returns-in-Stereo
 unfolding has_nan
-returns-in-Stereo c = ap₂ ◌||◌ c.is_nan-in-Stereo.ensures c.is_nan-in-Stereo-2.ensures ∙ two (is_nan c.in-Stereo.l) (is_nan c.in-Stereo.r) ∙ sym (ap has_nan c.in-Stereo.is)
+returns-in-Stereo c = ap₂ ◌||◌ c.is_nan-in-Stereo.ensures.value c.is_nan-in-Stereo-2.ensures.value ∙ two (is_nan c.in-Stereo.l) (is_nan c.in-Stereo.r) ∙ sym (ap has_nan c.in-Stereo.is)
 
 pub returns-in-Five : goal.returns-in-Five
 unfolding has_nan
 returns-in-Five c =
     let f : Five = c.in-Five.f in
-    ap₂ ◌||◌ (ap₂ ◌||◌ (ap₂ ◌||◌ (ap₂ ◌||◌ c.is_nan-in-Five.ensures c.is_nan-in-Five-2.ensures) c.is_nan-in-Five-3.ensures) c.is_nan-in-Five-4.ensures) c.is_nan-in-Five-5.ensures
+    ap₂ ◌||◌ (ap₂ ◌||◌ (ap₂ ◌||◌ (ap₂ ◌||◌ c.is_nan-in-Five.ensures.value c.is_nan-in-Five-2.ensures.value) c.is_nan-in-Five-3.ensures.value) c.is_nan-in-Five-4.ensures.value) c.is_nan-in-Five-5.ensures.value
     ∙ five (is_nan f.L) (is_nan f.R) (is_nan f.C) (is_nan f.Ls) (is_nan f.Rs) ∙ sym (ap has_nan c.in-Five.is)

@@ -1,25 +1,23 @@
 -- `mending::has_room` meets its contract.
-use Prim.Native.Nat.{◌+◌, ◌≤◌}
-use mathlib.Core.Path.{sym}
+use Prim.Native.Nat.{ℕ, ◌+◌, ◌≤◌}
+use mathlib.Core.Path.{sym, ◌∙◌}
+use mathlib.Core.List.{List}
 use native.Mathlib.Omega.{arith}
 use borrow.Author.Tests.{le-leb}
 use lib.ListN.{length, drop, length-drop}
 use Rattle.mending.specs.Mending.{mended}
 use Rattle.mending.proofs.Walks.{mended_size}
 use Rattle.mending.proofs.has_room.Goals as goal
-use Rattle.mending.proofs.has_room.Goals.{Start}
 
 -- no more is kept than is left
-most : (c : goal.Start) → length (mended (drop c.args.from c.args.recording.now)) + c.args.from ≤ length c.args.recording.now
-most c =
-    let a = c.args in
-    omega (arith, mended_size (drop a.from a.recording.now), length-drop a.from a.recording.now, c.requires.within)
+most : (s : List ℕ) (from : ℕ) → from ≤ length s → length (mended (drop from s)) + from ≤ length s
+most s from h = omega (arith, mended_size (drop from s), length-drop from s)
 
 pub returns-then-size-recording : goal.returns-then-size-recording
 returns-then-size-recording c =
-    let s = c in
-    let h : s.args.size + length (mended (drop s.args.from s.args.recording.now)) ≤ s.args.room = omega (arith, c.if-size-recording.true, most (goal.at.returns-then-size-recording c).Start) in
-    sym (le-leb _ _ h)
+    let a = c.args in
+    let h : a.size + length (mended (drop a.from a.recording.now)) ≤ a.room = omega (arith, c.if-size-recording.true, most a.recording.now a.from c.requires.within) in
+    le-leb _ _ c.if-size-recording.true ∙ sym (le-leb _ _ h)
 
 pub overflow_add-result : goal.overflow_add-result
-overflow_add-result c = let s = c in omega (arith, c.put_kept.ensures.0, most (goal.at.overflow_add-result c).Start, s.requires.fewer)
+overflow_add-result c = omega (arith, c.put_kept.ensures.0, most c.args.recording.now c.args.from c.requires.within, c.requires.fewer)

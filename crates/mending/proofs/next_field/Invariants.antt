@@ -1,12 +1,9 @@
 -- `mending::next_field` meets its contract. The loop's invariant: the place asked for is the next one from here on.
-use Prim.Native.Nat.{◌+◌, ◌-◌, ◌≤◌}
+use Prim.Native.Nat.{◌+◌}
 use mathlib.Core.Path.{◌≡◌}
-use lib.ListN.{length, drop}
+use lib.ListN.{drop}
 use Rattle.mending.specs.Places.{gap}
 use Rattle.mending.proofs.next_field.Given as goal
 
 abbrev pub invariant-loop-at : goal.invariant-loop-at
-invariant-loop-at l = (l.at ≤ length l.recording) × (l.from + gap (drop l.from l.recording) ≡ l.at + gap (drop l.at l.recording))
-
-abbrev pub decreases-loop-at : goal.decreases-loop-at
-decreases-loop-at l = length l.recording - l.at
+invariant-loop-at l = l.from + gap (drop l.from l.recording) ≡ l.at + gap (drop l.at l.recording)

@@ -11,9 +11,9 @@ use Rattle.picture.proofs.hand_out.Goals as goal
 said : (p : Picture) (r : Handed) → r ≡ handed_out p → (r ≡ handed_out p) × (video_values r.shown ≡ handed_values p)
 said p r e = (e, ap (λ (h : Handed). video_values h.shown) e ∙ handed_says p)
 
-pub returns-then-f : goal.returns-then-f
+pub returns-then-p : goal.returns-then-p
 unfolding handed_out
-returns-then-f c = said _ _ (simp c.if-f.true)
+returns-then-p c = said _ _ (simp c.if-p.true)
 
-pub returns : goal.returns
-returns c = said _ _ (handed_none _ c.if-f.false)
+pub returns-else-p : goal.returns-else-p
+returns-else-p c = said _ _ (handed_none _ c.if-p.false)

@@ -24,12 +24,12 @@ filled c =
     ap (put_mid (a.p.row * 60) (a.p.row * 60 + 60 - a.p.row * 60) a.p.filling) c.sample_line.ensures.out_after
     ∙ sampled_row a.line.now a.p.filling a.format a.p.row l (search rules) (search rules) (search rules)
 
-pub returns-then-row-lt15 : goal.returns-then-row-lt15
+pub returns-then-p-lt15 : goal.returns-then-p-lt15
 unfolding taken
-returns-then-row-lt15 c = simp (lt-ltb _ _ c.if-row-lt15.true, filled (goal.at.returns-then-row-lt15 c).After-sample_line)
+returns-then-p-lt15 c = simp (lt-ltb _ _ c.if-p-lt15.true, filled (goal.at.returns-then-p-lt15 c).After-sample_line)
 
 pub returns : goal.returns
 unfolding taken interlaced
 returns c =
     let e = c in
-    simp (le-ltb _ _ e.if-row-lt15.false, c.end_field.ensures, c.row_of-r.ensures, filled (goal.at.returns c).After-sample_line)
+    simp (le-ltb _ _ e.if-p-lt15.false, c.end_field.ensures, c.row_of-r.ensures, filled (goal.at.returns c).After-sample_line)

@@ -4,11 +4,12 @@ use mathlib.Core.Path.{ap, ◌∙◌}
 use native.Mathlib.Omega.{arith}
 use lib.ListN.{length}
 use Rattle.text.proofs.Pieces.{put_as, put_front}
-use Rattle.receive_feed.specs.declared.Answered.{Answered}
-use Rattle.receive_feed.specs.declared.Fed.{Fed}
+use Rattle.receiving.specs.declared.Receiver.{Receiver}
+use Rattle.answers.specs.declared.Fed.{Fed}
 use Rattle.answers.specs.Lines.{said_of, line_of}
 use Rattle.answers.proofs.Sizes.{quiet_said}
-use Rattle.receive_feed.specs.Feed.{step_line, line_next, front, fed_of}
+use Rattle.receive_feed.specs.Feed.{Answered, line_next, front}
+use Rattle.answers.specs.Steps.{step_line, fed_of}
 use Rattle.receive_feed.proofs.Kept.{quiet, next_fits}
 use Rattle.receive_feed.proofs.next.Goals as goal
 
@@ -20,8 +21,8 @@ returns c =
     let bytes = c.args.bytes.now in
     let t = front r bytes in
     let said = ap (λ (a : Answered). said_of a.answer f.new.work) f.ensures.0 ∙ ap (said_of t.answered.answer) f.ensures.1 ∙ quiet_said t.answered.answer t.left (quiet r bytes) in
-    let q = put_front (put_as said c.say-size.ensures) (omega (arith, next_fits r bytes)) in (
-      ap {B = Fed} (λ (n : ℕ). record { size = n; answer = f.result.answer; receiver = f.result.receiver }) q.0
-          ∙ ap {B = Fed} (λ (a : Answered). record { size = length (line_of t.answered.answer t.left); answer = a.answer; receiver = a.receiver }) f.ensures.0,
+    let q = put_front (put_as said c.say.ensures) (omega (arith, next_fits r bytes)) in (
+      ap {B = Fed Receiver} (λ (n : ℕ). record { size = n; answer = f.result.answer; after = f.result.after }) q.0
+          ∙ ap {B = Fed Receiver} (λ (a : Answered). record { size = length (line_of t.answered.answer t.left); answer = a.answer; after = a.after }) f.ensures.0,
       q.1,
     )

@@ -5,4 +5,4 @@ use Rattle.receiving.proofs.distance.Goals as goal
 
 pub returns : goal.returns
 unfolding ahead
-returns c = omega arith
+returns c = omega (arith, c.from.ensures)

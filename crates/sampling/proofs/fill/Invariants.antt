@@ -1,15 +1,9 @@
--- `sampling::fill` meets its contract. The loop's invariant: the pixels passed stand at the front of the room, and the next one's first tap is at hand.
-use Prim.Native.Nat.{◌+◌, ◌-◌, ◌*◌, ◌≤◌}
+-- `sampling::fill` meets its contract. The loop's invariant: the pixels passed stand at the front of the room.
 use mathlib.Core.Path.{◌≡◌}
 use mathlib.Core.List.{◌++◌}
-use lib.ListN.{length, drop}
+use lib.ListN.{drop}
 use Rattle.sampling.specs.Samples.{pixel_by, firsts}
 use Rattle.sampling.proofs.fill.Given as goal
 
-abbrev pub invariant-loop-i : goal.invariant-loop-i
-invariant-loop-i l =
-    ((l.i ≤ 60) × (l.at ≡ l.start + l.step * l.i - l.before))
-    × ((l.out ≡ firsts (pixel_by l.line l.start l.step l.before l.n) l.i ++ drop l.i l.initial.out) × (length l.out ≡ length l.initial.out))
-
-abbrev pub decreases-loop-i : goal.decreases-loop-i
-decreases-loop-i l = 60 - l.i
+abbrev pub invariant-loop-k : goal.invariant-loop-k
+invariant-loop-k l = l.out ≡ firsts (pixel_by l.line l.start l.step l.before l.n) l.k ++ drop l.k l.initial.out

@@ -25,49 +25,56 @@ last :
 last c =
     let a = c.args in
     let l = c.loop-i in
-    let e : a.s + l.i - 1 + 1 ≡ a.s + l.i = omega arith in
-    let n : l.i + 1 ≡ a.n = omega arith in
+    let n : 2 * l.i + 1 ≡ a.n = omega arith in
+    let e : a.s + a.n - 2 + 1 ≡ a.s + 2 * l.i = omega arith in
     last_more l.pairs c.tap_pair-last.result _ _ c.tap_pair-last.ensures (sample_small _ _)
-    ∙ (rw (l.invariant.1, e) (sym (sum_more a.line.now a.s l.i)) ∙ ap (tap_sum a.line.now a.s) n)
+    ∙ (rw (l.invariant, e) (sym (sum_more a.line.now a.s (2 * l.i))) ∙ ap (tap_sum a.line.now a.s) n)
 
 pub loop-i-init : goal.loop-i-init
 unfolding tap_sum
-loop-i-init c = (omega arith, refl)
+loop-i-init c = refl
 
 pub overflow_add-pairs : goal.overflow_add-pairs
 overflow_add-pairs c =
     let a = c.args in
     let l = c.loop-i in
-    let k = small a.line.now a.s l.i l.pairs (omega arith) l.invariant.1 in
+    let k = small a.line.now a.s (2 * l.i) l.pairs (omega arith) l.invariant in
     record { fits = fits l.pairs c.tap_pair-pairs.result _ _ k c.tap_pair-pairs.ensures (sample_small _ _) (sample_small _ _) }
 
 pub loop-i-preserved : goal.loop-i-preserved
 loop-i-preserved c =
     let a = c.args in
     let l = c.loop-i in
-    let x = sample_at a.line.now (a.s + l.i) in
-    let y = sample_at a.line.now (a.s + l.i + 1) in
-    let k = small a.line.now a.s l.i l.pairs (omega arith) l.invariant.1 in
-    let m = pair_more l.pairs x y (omega arith) (sample_small a.line.now (a.s + l.i)) in
-    (omega arith, rw (c.tap_pair-pairs.ensures, m.0, m.1, sum_two a.line.now a.s l.i) (omega (arith, l.invariant.1)))
+    let x = sample_at a.line.now (a.s + 2 * l.i) in
+    let y = sample_at a.line.now (a.s + 2 * l.i + 1) in
+    let k = small a.line.now a.s (2 * l.i) l.pairs (omega arith) l.invariant in
+    let m = pair_more l.pairs x y (omega arith) (sample_small a.line.now (a.s + 2 * l.i)) in
+    let e : 2 * (l.i + 1) ≡ 2 * l.i + 2 = omega arith in
+    rw (c.tap_pair-pairs.ensures, m.0, m.1, e, sum_two a.line.now a.s (2 * l.i)) (omega (arith, l.invariant))
 
 pub halves-requires : goal.halves-requires
 halves-requires c =
     let a = c.args in
     let l = c.loop-i in
-    let k = small a.line.now a.s l.i l.pairs (omega arith) l.invariant.1 in
+    let k = small a.line.now a.s (2 * l.i) l.pairs (omega arith) l.invariant in
     omega arith
 
-pub returns-then-i-eq0 : goal.returns-then-i-eq0
-returns-then-i-eq0 c =
+pub returns-then-n-eq0 : goal.returns-then-n-eq0
+returns-then-n-eq0 c =
     let a = c.args in
-    c.tap.ensures ∙ (sym (one_tap a.line.now a.s) ∙ ap (tap_sum a.line.now a.s) (omega arith))
+    let e : 2 * c.loop-i.i ≡ a.n = omega arith in
+    c.halves.ensures ∙ c.loop-i.invariant ∙ ap (tap_sum a.line.now a.s) e
+
+pub returns-then-n-eq1 : goal.returns-then-n-eq1
+returns-then-n-eq1 c =
+    let a = c.args in
+    c.tap.ensures ∙ (sym (one_tap a.line.now a.s) ∙ ap (tap_sum a.line.now a.s) (sym c.if-n-eq1.true))
 
 pub overflow_add-pairs-2 : goal.overflow_add-pairs-2
 overflow_add-pairs-2 c =
     let a = c.args in
     let l = c.loop-i in
-    let k = small a.line.now a.s l.i l.pairs (omega arith) l.invariant.1 in
+    let k = small a.line.now a.s (2 * l.i) l.pairs (omega arith) l.invariant in
     record { fits = fits l.pairs c.tap_pair-last.result _ _ k c.tap_pair-last.ensures (sample_small _ _) (sample_small _ _) }
 
 pub halves-requires-2 : goal.halves-requires-2

@@ -16,10 +16,10 @@ with s prints =
 pub returns-then-not-is_set : goal.returns-then-not-is_set
 returns-then-not-is_set c = audio_same c.args.s (sym c.is_set.ensures ∙ c.if-not-is_set.true)
 
-pub clear-cleared-requires : goal.clear-cleared-requires
-clear-cleared-requires c = set_count c.args.s.programme.settings (sym c.is_set.ensures ∙ c.if-not-is_set.false)
+pub clear-requires : goal.clear-requires
+clear-requires c = set_count c.args.s.programme.settings (sym c.is_set.ensures ∙ c.if-not-is_set.false)
 
 pub returns : goal.returns
 returns c =
     let s = c.args.s in
-    ap (with s) c.clear-cleared.ensures ∙ audio_anew_lem s (sym c.is_set.ensures ∙ c.if-not-is_set.false)
+    ap (with s) c.clear.ensures ∙ audio_anew_lem s (sym c.is_set.ensures ∙ c.if-not-is_set.false)

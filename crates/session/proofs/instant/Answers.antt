@@ -17,11 +17,11 @@ pub returns-then-reach-ne0 : goal.returns-then-reach-ne0
 unfolding instant_of instanted_number
 returns-then-reach-ne0 c = let a = c.args in let r = c.reach_number-reach in unreached a.s a.k r.result r.ensures c.if-reach-ne0.true _ _
 
-pub offset_bounds-all-k : goal.offset_bounds-all-k
-offset_bounds-all-k c = omega (arith, in_table (goal.at.offset_bounds-all-k c).Else-reach-ne0)
+pub offset_bounds-s-k : goal.offset_bounds-s-k
+offset_bounds-s-k c = omega (arith, in_table (goal.at.offset_bounds-s-k c).Else-reach-ne0)
 
-pub bounds-all-k : goal.bounds-all-k
-bounds-all-k c = omega (arith, in_table (goal.at.bounds-all-k c).Else-reach-ne0)
+pub bounds-s-k : goal.bounds-s-k
+bounds-s-k c = omega (arith, in_table (goal.at.bounds-s-k c).Else-reach-ne0)
 
 pub returns-then-number-ne0 : goal.returns-then-number-ne0
 unfolding instant_of instanted_number
@@ -33,11 +33,11 @@ returns-then-number-ne0 c =
     (n.ensures ∙ ap (λ (d : ℕ). instant_number d (get_or a.s.fingerprints a.k no_fingerprint) a.i) c.interval-d.ensures)
     c.if-number-ne0.true
 
-pub offset_bounds-all-k-2 : goal.offset_bounds-all-k-2
-offset_bounds-all-k-2 c = omega (arith, in_table (goal.at.offset_bounds-all-k-2 c).Else-reach-ne0)
+pub offset_bounds-all-k : goal.offset_bounds-all-k
+offset_bounds-all-k c = omega (arith, in_table (goal.at.offset_bounds-all-k c).Else-reach-ne0)
 
-pub bounds-all-k-2 : goal.bounds-all-k-2
-bounds-all-k-2 c = omega (arith, in_table (goal.at.bounds-all-k-2 c).Else-reach-ne0)
+pub bounds-all-k : goal.bounds-all-k
+bounds-all-k c = omega (arith, in_table (goal.at.bounds-all-k c).Else-reach-ne0)
 
 pub returns : goal.returns
 unfolding instant_of instanted_number
@@ -48,5 +48,5 @@ returns c =
     let i = c.interval-d in
     heard_own a.s a.k r.result r.ensures c.if-reach-ne0.false _ _ n.result
     (n.ensures ∙ ap (λ (d : ℕ). instant_number d (get_or a.s.fingerprints a.k no_fingerprint) a.i) i.ensures)
-    c.if-number-ne0.false c.heard_instant-heard.result
-    (c.heard_instant-heard.ensures ∙ ap (λ (d : ℕ). step_of d (get_or a.s.fingerprints a.k no_fingerprint) (float_value a.s.programme.settings.rule a.i)) i.ensures)
+    c.if-number-ne0.false c.heard_instant.result
+    (c.heard_instant.ensures ∙ ap (λ (d : ℕ). step_of d (get_or a.s.fingerprints a.k no_fingerprint) (float_value a.s.programme.settings.rule a.i)) i.ensures)

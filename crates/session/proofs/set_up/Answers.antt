@@ -17,4 +17,4 @@ unfolding set_up_with
 returns c =
     let a = c.args in
     let settings : Settings = record { format = a.format; rate = a.rate; rule = a.rule; count = a.count } in
-    ap (λ (p : Picture). with settings p c.fresh_fingerprints-fresh.result) c.fresh-picture.ensures ∙ ap (λ (l : List Fingerprint). with settings fresh_picture l) c.fresh_fingerprints-fresh.ensures
+    ap (λ (p : Picture). with settings p c.fresh_fingerprints.result) c.fresh.ensures ∙ ap (λ (l : List Fingerprint). with settings fresh_picture l) c.fresh_fingerprints.ensures

@@ -7,4 +7,4 @@ pub returns-then-not-is_set : goal.returns-then-not-is_set
 returns-then-not-is_set c = video_same c.args.s (sym c.is_set.ensures ∙ c.if-not-is_set.true)
 
 pub returns : goal.returns
-returns c = video_anew c.args.s (sym c.is_set.ensures ∙ c.if-not-is_set.false) c.restart-after.result c.restart-after.ensures
+returns c = video_anew c.args.s (sym c.is_set.ensures ∙ c.if-not-is_set.false) c.restart.result c.restart.ensures

@@ -4,4 +4,4 @@ use borrow.Author.Rules.{rules}
 use Rattle.sound.proofs.raised.Goals as goal
 
 pub returns : goal.returns
-returns c = (search rules, raised_is c.args.s (search rules))
+returns c = (search rules, rw c.from.ensures (raised_is c.args.s (search rules)))

@@ -11,10 +11,6 @@ pub returns-then-payload-lt2 : goal.returns-then-payload-lt2
 unfolding room_at
 returns-then-payload-lt2 c = let a = c.args in rw (lt-leb (a.at + 2) (length a.payload.now) (omega arith))
 
-pub returns-then-payload-at : goal.returns-then-payload-at
-unfolding room_at
-returns-then-payload-at c = let a = c.args in rw (lt-leb (a.at + 2) (length a.payload.now) (omega arith))
-
 pub returns-then-room-le4096 : goal.returns-then-room-le4096
 unfolding room_at
 returns-then-room-le4096 c = let a = c.args in rw (← c.pair_at-room.ensures.0, le-leb (a.at + 2) (length a.payload.now) (omega arith)) (search tests)

@@ -1,20 +1,22 @@
 -- `answers::fault::put_cause` meets its contract.
-use mathlib.Core.Path.{◌≡◌, ap}
-use mathlib.Core.List.{[], ◌∷◌}
+use Prim.Native.Nat.{ℕ}
+use mathlib.Core.Path.{◌≡◌, refl, sym, ap}
+use mathlib.Core.List.{[]}
 use native.Mathlib.Omega.{arith}
-use lib.ListN.{take}
-use Rattle.text.specs.Spelling.{hex_text}
-use Rattle.text.proofs.Pieces.{put_then, put_as}
-use Rattle.answers.specs.Faults.{cause_row, cause_size, cause_tag, cause_tags, cause_text}
+use Rattle.answers.specs.declared.Cause.{Cause}
+use Rattle.answers.specs.declared.Cause.TheVariants.{UnknownTag}
+use Rattle.answers.specs.Faults.{tag_text, cause_text}
+use Rattle.text.proofs.Pieces.{put_none, put_then, put_as}
 use Rattle.answers.proofs.fault.put_cause.Goals as goal
-use Rattle.answers.proofs.fault.put_cause.Goals.{After-cause_tags-tags}
 
-words : (c : goal.After-cause_tags-tags) → take c.cause_size-size.result c.cause_row-row.result ≡ take (cause_size c.args.cause) (cause_row c.args.cause)
-words c = rw (c.cause_size-size.ensures, c.cause_row-row.ensures)
-
-tag : (c : goal.After-cause_tags-tags) → take c.cause_tags-tags.result (c.cause_tag.result ∷ []) ≡ take (cause_tags c.args.cause) (cause_tag c.args.cause ∷ [])
-tag c = rw (c.cause_tags-tags.ensures, c.cause_tag.ensures)
-
-pub returns : goal.returns
+pub returns-in-UnknownTag : goal.returns-in-UnknownTag
 unfolding cause_text
-returns c = put_then (put_as (words (goal.at.returns c).After-cause_tags-tags) c.put-p.ensures) (put_as (ap hex_text (tag (goal.at.returns c).After-cause_tags-tags)) c.put_hex.ensures) (omega arith)
+returns-in-UnknownTag c = put_then (put_as c.cause_words.ensures c.put-p.ensures) (put_as (sym (ap tag_text c.in-UnknownTag.is)) c.put_hex.ensures) (omega arith)
+
+no_tag : (cause : Cause) → ((tag : ℕ) → cause ≡ UnknownTag tag → ⊥) → tag_text cause ≡ []
+no_tag (UnknownTag tag) h = absurd (h tag refl)
+no_tag cause h = refl
+
+pub returns-in_default : goal.returns-in_default
+unfolding cause_text
+returns-in_default c = put_then (put_as c.cause_words.ensures c.put-p.ensures) (put_as (sym (no_tag _ c.in_default.not-UnknownTag)) (put_none _ _ (omega arith))) (omega arith)

@@ -8,6 +8,7 @@ use borrow.Author.Tests.{eq-eqb, ne_eqb}
 use Rattle.session.specs.declared.Session.{Session}
 use Rattle.bench_session.specs.Instants.{instants_heard, all_heard}
 use Rattle.bench_session.proofs.instants.all_heard.Goals as goal
+use Rattle.bench_session.proofs.instants.all_heard.Goals.{then-mix-eq0-via-then-mix-eq0, then-mix-eq0-via-else-mix-eq0+then-count-eq0}
 
 either : (b : Bool) (s : Session) → cond b s s ≡ s
 either true s = refl
@@ -17,11 +18,10 @@ pub returns-then-mix-eq0 : goal.returns-then-mix-eq0
 unfolding all_heard instants_heard
 returns-then-mix-eq0 c =
     let a = c.args in
-    rw (c.if-mix-eq0.true, div-zero (length a.values.now)) (sym (either (eqb a.count 0) a.s))
-
-pub returns-then-count-eq0 : goal.returns-then-count-eq0
-unfolding all_heard
-returns-then-count-eq0 c = rw (eq-eqb _ _ c.if-count-eq0.true)
+    elim c.then-mix-eq0.branch [
+      | then-mix-eq0-via-then-mix-eq0 w ↦ rw (w.if-mix-eq0.true, div-zero (length a.values.now)) (sym (either (eqb a.count 0) a.s))
+      | then-mix-eq0-via-else-mix-eq0+then-count-eq0 w ↦ rw (eq-eqb _ _ w.if-count-eq0.true)
+    ]
 
 pub returns : goal.returns
 unfolding all_heard

@@ -1,9 +1,6 @@
-use Prim.Native.Nat.{ℕ, ◌+◌, ◌≤◌}
+use Prim.Native.Nat.{ℕ, ◌*◌}
 use mathlib.Core.Path.{refl, ap, ap₂, ◌∙◌}
-use native.Mathlib.Nat.{mul-le-mul_right}
 use native.Mathlib.Numerals.{add-one}
-use native.Mathlib.Omega.{arith}
-use lib.ListN.{drop}
 use Rattle.laws.proofs.Lists.{tail_part}
 use Rattle.floats.specs.declared.Instant.{Instant}
 use Rattle.session.specs.declared.Session.{Session}
@@ -15,22 +12,16 @@ use Rattle.bench_session.proofs.instants.instants_heard.Goals as goal
 
 pub loop-i-init : goal.loop-i-init
 unfolding turn instants_heard
-loop-i-init c = (omega arith, omega arith, omega arith, refl, refl)
+loop-i-init c = (refl, refl)
 
 pub loop-i-preserved : goal.loop-i-preserved
 unfolding turn instants_heard
 loop-i-preserved c =
     let l = c.loop-i in
     let a = c.args in
-    let more : l.i + 1 ≤ a.n = omega arith in
-    let v = a.values.now in
-    let all = tail_part v l.at in
-    let i = c.instant_of.ensures ∙ ap (instant_of a.mix) (all ∙ ap (λ (k : ℕ). drop k v) l.invariant.1) in
-    let heard = c.instant-r.ensures ∙ ap (λ (k : ℕ). session.instant_of l.t k c.instant_of.result) l.invariant.3 in
-    let next = ap₂ (λ (t : Session) (j : Instant). session.instant_of t (turn a.last l.i) j) l.invariant.4 i in (
-      more,
-      omega arith,
-      omega (arith, mul-le-mul_right a.mix more),
-      rw add-one (c.turn_after-k.ensures ∙ ap (turn_after a.last) l.invariant.3),
+    let i = c.instant_of.ensures ∙ ap (instant_of a.mix) (tail_part a.values.now (l.i * a.mix)) in
+    let heard = c.instant.ensures ∙ ap (λ (k : ℕ). session.instant_of l.t k c.instant_of.result) l.invariant.0 in
+    let next = ap₂ (λ (t : Session) (j : Instant). session.instant_of t (turn a.last l.i) j) l.invariant.1 i in (
+      rw add-one (c.turn_after-k.ensures ∙ ap (turn_after a.last) l.invariant.0),
       rw add-one (ap (λ (r : Sounded). r.session) (heard ∙ next)),
     )

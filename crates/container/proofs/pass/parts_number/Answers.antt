@@ -1,128 +1,76 @@
 -- `container::pass::parts_number` meets its contract: the number from what each part came to, one after the other.
-use Prim.Native.Nat.{ℕ, ◌+◌, ◌/◌, ◌%◌, ◌≤◌}
-use mathlib.Core.Path.{◌≡◌, refl, ap, sym, ◌∙◌}
-use mathlib.Core.List.{List}
-use native.Mathlib.Omega.{arith}
-use lib.ListN.{length, drop}
-use Rattle.container.specs.declared.AudioPart.{AudioPart}
+use Rattle.std.proofs.Common.{ℕ, ◌≡◌, ◌+◌, ◌/◌, ◌%◌, ◌≤◌, List, Option, Some, drop, length, arith, sym, ap, ◌∙◌}
+use Rattle.std.specs.Option.{option_map}
 use Rattle.container.specs.declared.Reading.{Reading}
 use Rattle.container.specs.Parts.{video_part, audio_part}
-use Rattle.laws.proofs.Lists.{tail_part}
-use Rattle.container.proofs.Parts.{id_within, video_within, audio_within, parts_25, parts_26, parts_27, parts_28, parts_0}
+use Rattle.container.specs.Reading.{id_in, video_in}
+use Rattle.container.proofs.Parts.{lent_from, id_within, video_within, audio_within, parts_25, parts_26, number_27, number_28, number_0}
 use Rattle.container.proofs.pass.parts_number.Goals as goal
-use Rattle.container.proofs.pass.parts_number.Goals.{After-pass_audio-a, After-read_id-i, After-read_video-v}
+use Rattle.container.proofs.pass.parts_number.Goals.{In-Some, In-Some-read_video, In-Some-pass_audio}
 
 abbrev number : Reading → ℕ
 number r = r.number
 
-abbrev flags : (c : goal.After-read_id-i) → ℕ
-flags c = c.args.flags
+id_is : (c : goal.In-Some) → id_in c.args.flags c.args.b.now ≡ Some c.in-Some.i
+id_is c = sym c.read_id.ensures ∙ c.in-Some.is
 
-abbrev bytes : (c : goal.After-read_id-i) → List ℕ
-bytes c = c.args.b.now
-
-abbrev p : (c : goal.After-read_id-i) → ℕ
-p c = c.read_id-i.result.used
+abbrev sized : ℕ → List ℕ → Option ℕ
+sized flags b = option_map (λ a. a.used) (audio_part (flags % 2) (flags / 16) b)
 
 -- each part ends within the bytes
-first_end : (c : goal.After-read_id-i) → p c ≤ length (bytes c)
-first_end c = id_within (flags c) (bytes c) _ c.read_id-i.ensures
+first_end : (c : goal.In-Some) → c.in-Some.i.used ≤ length c.args.b.now
+first_end c = id_within c.args.flags c.args.b.now c.in-Some.i (id_is c)
 
-abbrev flags_at_1 : (c : goal.After-read_video-v) → ℕ
-flags_at_1 c = c.args.flags
+video_is : (c : goal.In-Some-read_video) → video_in c.args.flags c.in-Some.i.used c.args.b.now ≡ Some c.in-Some-read_video.v
+video_is c = lent_from (video_part (c.args.flags / 2 % 2) (c.args.flags / 16)) c.args.b.now c.in-Some.i.used _ _ c.read_video.ensures c.in-Some-read_video.is
 
-abbrev bytes_at_1 : (c : goal.After-read_video-v) → List ℕ
-bytes_at_1 c = c.args.b.now
+second_end : (c : goal.In-Some-read_video) → c.in-Some.i.used + c.in-Some-read_video.v.used ≤ length c.args.b.now
+second_end c = video_within c.args.flags c.args.b.now c.in-Some.i (sym c.read_id.ensures ∙ c.in-Some.is) c.in-Some-read_video.v (video_is c)
 
-abbrev p_at_1 : (c : goal.After-read_video-v) → ℕ
-p_at_1 c = c.read_id-i.result.used
-
-video_is : (c : goal.After-read_video-v) → c.read_video-v.result ≡ video_part (flags_at_1 c / 2 % 2) (flags_at_1 c / 16) (drop (p_at_1 c) (bytes_at_1 c))
-video_is c = c.read_video-v.ensures ∙ rw tail_part
-
-abbrev q : (c : goal.After-read_video-v) → ℕ
-q c = p_at_1 c + c.read_video-v.result.used
-
-second_end : (c : goal.After-read_video-v) → q c ≤ length (bytes_at_1 c)
-second_end c = video_within (flags_at_1 c) (bytes_at_1 c) _ c.read_id-i.ensures _ (video_is c)
-
-abbrev flags_at_2 : (c : goal.After-pass_audio-a) → ℕ
-flags_at_2 c = c.args.flags
-
-abbrev bytes_at_2 : (c : goal.After-pass_audio-a) → List ℕ
-bytes_at_2 c = c.args.b.now
-
-abbrev p_at_2 : (c : goal.After-pass_audio-a) → ℕ
-p_at_2 c = c.read_id-i.result.used
-
-abbrev q_at_1 : (c : goal.After-pass_audio-a) → ℕ
-q_at_1 c = p_at_2 c + c.read_video-v.result.used
-
-abbrev audio : (c : goal.After-pass_audio-a) → AudioPart
-audio c = audio_part (flags_at_2 c % 2) (flags_at_2 c / 16) (drop (q_at_1 c) (bytes_at_2 c))
-
-audio_ok : (c : goal.After-pass_audio-a) → c.pass_audio-a.result.ok ≡ (audio c).ok
-audio_ok c = c.pass_audio-a.ensures.0 ∙ rw tail_part
-
-audio_used_is : (c : goal.After-pass_audio-a) → c.pass_audio-a.result.used ≡ (audio c).used
-audio_used_is c = c.pass_audio-a.ensures.1 ∙ rw tail_part
-
-video_is_at_1 : (c : goal.After-pass_audio-a) → c.read_video-v.result ≡ video_part (flags_at_2 c / 2 % 2) (flags_at_2 c / 16) (drop (p_at_2 c) (bytes_at_2 c))
-video_is_at_1 c = c.read_video-v.ensures ∙ rw tail_part
-
-last_end : (c : goal.After-pass_audio-a) → q_at_1 c + c.pass_audio-a.result.used ≤ length (bytes_at_2 c)
-last_end c =
-    audio_within (flags_at_2 c) (bytes_at_2 c) _ c.read_id-i.ensures _ (video_is_at_1 c) _ (audio_used_is c)
-
-pub returns-then-not-id_ok : goal.returns-then-not-id_ok
-returns-then-not-id_ok c =
-    let d = c in
-    sym (ap number (parts_25 0 (flags (goal.at.returns-then-not-id_ok c).After-read_id-i) (bytes (goal.at.returns-then-not-id_ok c).After-read_id-i) _ d.read_id-i.ensures (c.if-not-id_ok.true)))
+pub returns-in_default : goal.returns-in_default
+returns-in_default c = sym (ap number (parts_25 0 c.args.flags c.args.b.now (sym c.read_id.ensures ∙ c.in_default.is)))
 
 pub slice_bounds-read_video-count : goal.slice_bounds-read_video-count
-slice_bounds-read_video-count c = omega (arith, first_end (goal.at.slice_bounds-read_video-count c).After-read_id-i)
+slice_bounds-read_video-count c = first_end (goal.at.slice_bounds-read_video-count c).In-Some
 
 pub slice_bounds-read_video-start : goal.slice_bounds-read_video-start
-slice_bounds-read_video-start c = omega (arith, first_end (goal.at.slice_bounds-read_video-start c).After-read_id-i)
+slice_bounds-read_video-start c = omega (arith, first_end (goal.at.slice_bounds-read_video-start c).In-Some)
 
-pub returns-then-not-video_ok : goal.returns-then-not-video_ok
-returns-then-not-video_ok c =
-    let e = c in
-    let d = e in
-    sym (ap number (parts_26 0 (flags (goal.at.returns-then-not-video_ok c).After-read_id-i) (bytes (goal.at.returns-then-not-video_ok c).After-read_id-i) _ d.read_id-i.ensures (e.if-not-id_ok.false) _ (video_is (goal.at.returns-then-not-video_ok c).After-read_video-v) (c.if-not-video_ok.true)))
+pub returns-in_default-read_video : goal.returns-in_default-read_video
+returns-in_default-read_video c =
+    let w = goal.at.returns-in_default-read_video c in
+    sym (ap number (parts_26 0 c.args.flags c.args.b.now c.in-Some.i (id_is w.In-Some)
+    (lent_from (video_part (c.args.flags / 2 % 2) (c.args.flags / 16)) c.args.b.now c.in-Some.i.used _ _ c.read_video.ensures c.in_default-read_video.is)))
 
-pub overflow_add-q : goal.overflow_add-q
-overflow_add-q c = omega (arith, second_end (goal.at.overflow_add-q c).After-read_video-v)
+pub overflow_add-used : goal.overflow_add-used
+overflow_add-used c = omega (arith, second_end (goal.at.overflow_add-used c).In-Some-read_video)
 
 pub slice_bounds-pass_audio-count : goal.slice_bounds-pass_audio-count
-slice_bounds-pass_audio-count c = omega (arith, second_end (goal.at.slice_bounds-pass_audio-count c).After-read_video-v)
+slice_bounds-pass_audio-count c = second_end (goal.at.slice_bounds-pass_audio-count c).In-Some-read_video
 
 pub slice_bounds-pass_audio-start : goal.slice_bounds-pass_audio-start
-slice_bounds-pass_audio-start c = omega (arith, second_end (goal.at.slice_bounds-pass_audio-start c).After-read_video-v)
+slice_bounds-pass_audio-start c = omega (arith, second_end (goal.at.slice_bounds-pass_audio-start c).In-Some-read_video)
 
-pub returns-then-not-audio_ok : goal.returns-then-not-audio_ok
-returns-then-not-audio_ok c =
-    let f = c in
-    let e = f in
-    let d = e in
-    sym (ap number (parts_27 0 (flags (goal.at.returns-then-not-audio_ok c).After-read_id-i) (bytes (goal.at.returns-then-not-audio_ok c).After-read_id-i) _ d.read_id-i.ensures (e.if-not-id_ok.false) _ (video_is (goal.at.returns-then-not-audio_ok c).After-read_video-v) (f.if-not-video_ok.false)
-    (audio (goal.at.returns-then-not-audio_ok c).After-pass_audio-a) refl (sym (audio_ok (goal.at.returns-then-not-audio_ok c).After-pass_audio-a) ∙ c.if-not-audio_ok.true)))
+pub returns-in_default-pass_audio : goal.returns-in_default-pass_audio
+returns-in_default-pass_audio c =
+    let w = goal.at.returns-in_default-pass_audio c in
+    sym (number_27 0 c.args.flags c.args.b.now c.in-Some.i (id_is w.In-Some) c.in-Some-read_video.v (video_is w.In-Some-read_video)
+    (lent_from (sized c.args.flags) c.args.b.now _ _ _ c.pass_audio.ensures c.in_default-pass_audio.is))
 
-pub overflow_add-q-2 : goal.overflow_add-q-2
-overflow_add-q-2 c = omega (arith, last_end (goal.at.overflow_add-q-2 c).After-pass_audio-a)
+audio_is : (c : goal.In-Some-pass_audio) → sized c.args.flags (drop (c.in-Some.i.used + c.in-Some-read_video.v.used) c.args.b.now) ≡ Some c.in-Some-pass_audio.audio
+audio_is c = lent_from (sized c.args.flags) c.args.b.now _ _ _ c.pass_audio.ensures c.in-Some-pass_audio.is
 
-pub returns-then-q-a : goal.returns-then-q-a
-returns-then-q-a c =
-    let f = c in
-    let e = f in
-    let d = e in
-    sym (ap number (parts_28 0 (flags (goal.at.returns-then-q-a c).After-read_id-i) (bytes (goal.at.returns-then-q-a c).After-read_id-i) _ d.read_id-i.ensures (e.if-not-id_ok.false) _ (video_is (goal.at.returns-then-q-a c).After-read_video-v) (f.if-not-video_ok.false)
-    (audio (goal.at.returns-then-q-a c).After-pass_audio-a) refl (sym (audio_ok (goal.at.returns-then-q-a c).After-pass_audio-a) ∙ c.if-not-audio_ok.false) (λ z. c.if-q-a.true (ap (λ (m : ℕ). q (goal.at.returns-then-q-a c).After-read_video-v + m) (audio_used_is (goal.at.returns-then-q-a c).After-pass_audio-a) ∙ z))))
+pub overflow_add-used-2 : goal.overflow_add-used-2
+overflow_add-used-2 c =
+    let w = goal.at.overflow_add-used-2 c in
+    omega (arith, audio_within c.args.flags c.args.b.now c.in-Some.i (id_is w.In-Some) c.in-Some-read_video.v (video_is w.In-Some-read_video) c.in-Some-pass_audio.audio (audio_is w.In-Some-pass_audio))
 
-pub returns : goal.returns
-returns c =
-    let f = c in
-    let e = f in
-    let d = e in
-    sym (ap number (parts_0 0 (flags (goal.at.returns c).After-read_id-i) (bytes (goal.at.returns c).After-read_id-i) _ d.read_id-i.ensures (e.if-not-id_ok.false) _ (video_is (goal.at.returns c).After-read_video-v) (f.if-not-video_ok.false)
-    (audio (goal.at.returns c).After-pass_audio-a) refl (sym (audio_ok (goal.at.returns c).After-pass_audio-a) ∙ c.if-not-audio_ok.false) (ap (λ (m : ℕ). q (goal.at.returns c).After-read_video-v + m) (sym (audio_used_is (goal.at.returns c).After-pass_audio-a)) ∙ c.if-q-a.false)))
+pub returns-then-used-audio : goal.returns-then-used-audio
+returns-then-used-audio c =
+    let w = goal.at.returns-then-used-audio c in
+    sym (number_0 0 c.args.flags c.args.b.now c.in-Some.i (id_is w.In-Some) c.in-Some-read_video.v (video_is w.In-Some-read_video) c.in-Some-pass_audio.audio (audio_is w.In-Some-pass_audio) c.if-used-audio.true)
+
+pub returns-else-used-audio : goal.returns-else-used-audio
+returns-else-used-audio c =
+    let w = goal.at.returns-else-used-audio c in
+    sym (number_28 0 c.args.flags c.args.b.now c.in-Some.i (id_is w.In-Some) c.in-Some-read_video.v (video_is w.In-Some-read_video) c.in-Some-pass_audio.audio (audio_is w.In-Some-pass_audio) c.if-used-audio.false)

@@ -1,12 +1,7 @@
--- `container::pass::run_size` meets its contract. The loop's invariant: what is left of the run, and of the test that all carry the first one's count.
-use Prim.Native.Nat.{◌-◌, ◌≤◌}
-use lib.ListN.{length}
-use Rattle.container.proofs.Runs.{Going}
-use Rattle.container.proofs.Passing.{Carried}
+-- `container::pass::run_size` meets its contract. The loop's invariant: the fingerprints so far are passed.
+use Rattle.std.proofs.Common.{◌≤◌, length}
+use Rattle.container.proofs.Passing.{Passed}
 use Rattle.container.proofs.pass.run_size.Given as goal
 
-abbrev pub invariant-loop-k : goal.invariant-loop-k
-invariant-loop-k l = (l.k ≤ l.n) × (l.at ≤ length l.b) × Going l.rate l.n l.b l.k l.at × Carried l.rate l.n l.b l.k
-
-abbrev pub decreases-loop-k : goal.decreases-loop-k
-decreases-loop-k l = l.n - l.k
+abbrev pub invariant-loop : goal.invariant-loop
+invariant-loop l = (l.at ≤ length l.b) × Passed l.rate l.n l.b l.counter l.at

@@ -1,20 +1,13 @@
--- `container::valid::print_blank` meets its contract: each answer by the tests that led to it.
-use Rattle.laws.proofs.Tests.{tests}
+-- `container::valid::print_blank` meets its contract: the blank fingerprint's bytes are five zeros.
+use Rattle.std.proofs.Common.{◌≡◌, length, rules}
 use Rattle.container.specs.Writing.{print_blank}
+use Rattle.container.proofs.Readable.{zeros_same}
 use Rattle.container.proofs.valid.print_blank.Goals as goal
+use Rattle.container.proofs.valid.print_blank.Goals.{Start}
 
-pub returns-then-p-ne0 : goal.returns-then-p-ne0
-unfolding print_blank
-returns-then-p-ne0 c = search tests
-
-pub returns-then-p-ne0-2 : goal.returns-then-p-ne0-2
-unfolding print_blank
-returns-then-p-ne0-2 c = search tests
-
-pub returns-then-p-ne0-3 : goal.returns-then-p-ne0-3
-unfolding print_blank
-returns-then-p-ne0-3 c = search tests
+five_bytes : (c : goal.Start) → length c.args.p.bytes ≡ 5
+five_bytes c = search rules
 
 pub returns : goal.returns
 unfolding print_blank
-returns c = rw c.all_zero.ensures (search tests)
+returns c = rw (c.eq.ensures, c.blank_print.ensures, zeros_same c.args.p.bytes 5 (five_bytes (goal.at.returns c).Start))

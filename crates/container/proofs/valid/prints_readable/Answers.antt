@@ -1,42 +1,22 @@
-use Prim.Native.Nat.{ℕ, ◌+◌, ◌-◌}
-use mathlib.Core.Path.{◌≡◌, ap, sym, ◌∙◌}
-use mathlib.Core.List.{[]}
-use mathlib.Core.Bool.{Bool, ◌&&◌}
-use native.Mathlib.Omega.{arith}
-use borrow.Author.Rules.{rules}
-use lib.ListN.{length, drop}
+-- `container::valid::prints_readable` meets its contract.
+use Rattle.std.proofs.Common.{◌≡◌, rules, tests, sym, ◌∙◌}
+use Rattle.std.specs.List.{list_all}
+use Rattle.std.proofs.lemmas.Iterator.{YieldsList-from_slice}
+use Rattle.std.proofs.lemmas.Iterator.Search.{all_from_yields_List}
 use Rattle.laws.proofs.Tests.{and_stops, and_goes}
-use Rattle.container.specs.Writing.{prints_readable}
-use Rattle.container.proofs.Readable.{place_step, place_end}
+use Rattle.container.specs.Writing.{print_readable, print_blank}
+use Rattle.container.proofs.Readable.{places_all}
 use Rattle.container.proofs.valid.prints_readable.Goals as goal
-use Rattle.container.proofs.valid.prints_readable.Goals.{After-place_readable, Start}
+use Rattle.container.proofs.valid.prints_readable.Goals.{After-all}
 
-many_at_0 : (c : goal.After-place_readable) → length c.args.prints ≡ 32
-many_at_0 c = c.well_formed.1.0.1.0.1
+used_are : (c : goal.After-all) → c.all.result ≡ list_all (print_readable c.args.rate) c.args.used.now
+used_are c = all_from_yields_List (print_readable c.args.rate) _ _ _ c.all.ensures.ran (YieldsList-from_slice c.args.used.now cc) (λ x b q k. search (rules, tests))
 
-abbrev k : (c : goal.After-place_readable) → ℕ
-k c = c.loop-k.k
+pub returns-then-all : goal.returns-then-all
+returns-then-all c =
+    all_from_yields_List print_blank _ _ _ c.all-then-all.ensures.ran (YieldsList-from_slice c.args.unused.now cc) (λ x b q k. search (rules, tests))
+    ∙ sym (places_all c.args.rate c.args.used.now c.args.unused.now ∙ and_goes _ _ (sym (used_are (goal.at.returns-then-all c).After-all) ∙ c.if-all.true))
 
-abbrev rest : (c : goal.After-place_readable) → Bool
-rest c = prints_readable c.args.rate (c.args.n - ((k c) + 1)) (drop ((k c) + 1) c.args.prints)
-
-turn : (c : goal.After-place_readable) → prints_readable c.args.rate c.args.n c.args.prints ≡ (c.place_readable.result && (rest c))
-turn c =
-    c.loop-k.invariant.1
-    ∙ place_step c.args.rate c.args.n c.args.prints (k c) (record { id = 0; mix = 0; size = 0; bytes = [] }) (omega (arith, many_at_0 c, c.loop-k-test.true))
-    ∙ ap (λ (t : Bool). t && (rest c)) (sym c.place_readable.ensures)
-
-many : (c : goal.Start) → length c.args.prints ≡ 32
-many c = c.well_formed.1.0.1.0.1
-
-pub returns-then-not-place_readable : goal.returns-then-not-place_readable
-returns-then-not-place_readable c = sym (turn (goal.at.returns-then-not-place_readable c).After-place_readable ∙ and_stops c.place_readable.result _ (c.if-not-place_readable.true))
-
-pub loop-k-preserved : goal.loop-k-preserved
-loop-k-preserved c = (search rules, turn (goal.at.loop-k-preserved c).After-place_readable ∙ and_goes c.place_readable.result _ (c.if-not-place_readable.false))
-
-pub returns : goal.returns
-returns c =
-    let l = c.loop-k in
-    let s = c in
-    sym (l.invariant.1 ∙ place_end s.args.rate s.args.n s.args.prints l.k (omega (arith, many (goal.at.returns c).Start, c.loop-k-test.false)))
+pub returns-else-all : goal.returns-else-all
+returns-else-all c =
+    c.if-all.false ∙ sym (places_all c.args.rate c.args.used.now c.args.unused.now ∙ and_stops _ _ (sym (used_are (goal.at.returns-else-all c).After-all) ∙ c.if-all.false))

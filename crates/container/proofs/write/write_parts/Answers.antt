@@ -1,12 +1,14 @@
 -- `container::write::write_parts` meets its contract: each part from where the one before it ended.
-use Prim.Native.Nat.{ℕ}
-use mathlib.Core.Path.{◌≡◌}
+use Prim.Native.Nat.{ℕ, ◌≤◌}
+use mathlib.Core.Path.{◌≡◌, ap, ◌∙◌}
 use mathlib.Core.List.{List, ◌++◌}
 use native.Mathlib.Omega.{arith}
-use lib.ListN.{length, length-append}
+use lib.ListN.{length, take, length-append}
+use lib.Seq.{sets}
 use Rattle.laws.proofs.Lists.{sets_then}
+use Rattle.container.specs.declared.Print.{Print}
 use Rattle.container.specs.Bytes.{id_bytes, video_bytes, audio_bytes, part_bytes}
-use Rattle.container.proofs.Bytes.{id_at_most, video_at_most}
+use Rattle.container.proofs.Bytes.{id_at_most, video_at_most, front_fits, audio_front}
 use borrow.Author.Rules.{rules}
 use Rattle.container.proofs.write.write_parts.Goals as goal
 use Rattle.container.proofs.write.write_parts.Goals.{Start}
@@ -14,34 +16,38 @@ use Rattle.container.proofs.write.write_parts.Goals.{Start}
 twenty : (c : goal.Start) → length c.args.c.id ≡ 20
 twenty c = search rules
 
-abbrev videos : (c : goal.Start) → List ℕ
-videos c = video_bytes c.args.c.video
+many : (c : goal.Start) → length c.args.c.prints ≡ 32
+many c = search rules
 
-abbrev audios : (c : goal.Start) → List ℕ
-audios c = audio_bytes c.args.c.count c.args.c.prints
-
-abbrev ids : (c : goal.Start) → List ℕ
-ids c = id_bytes c.args.c.hasid c.args.c.id
+within : (c : goal.Start) → c.args.c.count ≤ length c.args.c.prints
+within c = omega (arith, c.requires.fits.run.many, many c)
 
 pub write_video-q-requires : goal.write_video-q-requires
 write_video-q-requires c =
-    let s = c in
-    omega (arith, c.write_id-p.ensures.0, s.requires.within, id_at_most s.args.c.hasid s.args.c.id (twenty (goal.at.write_video-q-requires c).Start))
+    omega (arith, c.write_id-p.ensures.0, c.requires.within, id_at_most c.args.c.hasid c.args.c.id (twenty (goal.at.write_video-q-requires c).Start))
+
+pub write_audio-requires-clause-fits : goal.write_audio-requires-clause-fits
+write_audio-requires-clause-fits c = let s = (goal.at.write_audio-requires-clause-fits c).Start in rw c.from.ensures (front_fits c.args.c.count c.args.c.prints (within s) c.requires.fits.run)
 
 pub write_audio-requires-clause-within : goal.write_audio-requires-clause-within
 write_audio-requires-clause-within c =
-    let s = c in
-    omega (arith, c.write_video-q.ensures.0, c.write_id-p.ensures.0, s.requires.within, id_at_most s.args.c.hasid s.args.c.id (twenty (goal.at.write_audio-requires-clause-within c).Start), video_at_most s.args.c.video)
+    omega (arith, c.write_video-q.ensures.0, c.write_id-p.ensures.0, c.requires.within, id_at_most c.args.c.hasid c.args.c.id (twenty (goal.at.write_audio-requires-clause-within c).Start), video_at_most c.args.c.video)
 
 pub returns : goal.returns
 unfolding part_bytes
 returns c =
-    let s = c in
-    let out : List ℕ = s.args.out.now in
-    let at = s.args.at in
-    let l = length-append (ids (goal.at.returns c).Start) (videos (goal.at.returns c).Start) in
-    let m = length-append (ids (goal.at.returns c).Start ++ videos (goal.at.returns c).Start) (audios (goal.at.returns c).Start) in
-    let e = sets_then out _ _ (ids (goal.at.returns c).Start) (videos (goal.at.returns c).Start) at c.write_id-p.result c.write_id-p.ensures.1 c.write_id-p.ensures.0 c.write_video-q.ensures.1 in (
-      omega (arith, l, m, c.write_id-p.ensures.0, c.write_video-q.ensures.0, c.write_audio.ensures.0),
-      sets_then out _ _ (ids (goal.at.returns c).Start ++ videos (goal.at.returns c).Start) (audios (goal.at.returns c).Start) at c.write_video-q.result e (omega (arith, l, c.write_id-p.ensures.0, c.write_video-q.ensures.0)) c.write_audio.ensures.1,
+    let s = (goal.at.returns c).Start in
+    let out : List ℕ = c.args.out.now in
+    let at = c.args.at in
+    let ids : List ℕ = id_bytes c.args.c.hasid c.args.c.id in
+    let videos : List ℕ = video_bytes c.args.c.video in
+    let audios : List ℕ = audio_bytes c.args.c.count c.args.c.prints in
+    let front : List Print = take c.from.result c.args.c.prints in
+    let f : audio_bytes (length front) front ≡ audios = rw c.from.ensures (audio_front c.args.c.count c.args.c.prints (within s)) in
+    let l = length-append ids videos in
+    let m = length-append (ids ++ videos) audios in
+    let e = sets_then out _ _ ids videos at c.write_id-p.result c.write_id-p.ensures.1 c.write_id-p.ensures.0 c.write_video-q.ensures.1 in (
+      omega (arith, l, m, ap length f, c.write_id-p.ensures.0, c.write_video-q.ensures.0, c.write_audio.ensures.0),
+      sets_then out _ _ (ids ++ videos) audios at c.write_video-q.result e (omega (arith, l, c.write_id-p.ensures.0, c.write_video-q.ensures.0))
+          (c.write_audio.ensures.1 ∙ ap (sets c.write_video-q.new.out c.write_video-q.result) f),
     )

@@ -1,61 +1,37 @@
-use Prim.Native.Nat.{ℕ, ◌+◌, ◌≤◌, ◌<◌}
-use mathlib.Core.Path.{◌≡◌, refl, ap, sym, subst, ◌∙◌}
-use mathlib.Core.List.{List, []}
-use native.Mathlib.Omega.{arith}
-use lib.ListN.{length, get_or, take}
-use lib.Seq.{sets}
+use Rattle.std.proofs.Common.{◌<◌, ℕ, List, [], length, get_or, take, arith, refl, ap, sym, subst, ◌∙◌}
+use Rattle.std.proofs.lemmas.List.Edits.{sets}
 use Rattle.laws.proofs.Lists.{get_d_any, sets_then}
 use Rattle.container.specs.declared.Print.{Print}
 use Rattle.container.specs.Contents.{blank_print}
 use Rattle.container.specs.Bytes.{print_bytes, run_bytes}
-use Rattle.container.specs.Writing.{PrintFits}
+use Rattle.container.specs.Writing.{PrintFits, RunFits}
 use Rattle.container.proofs.Bytes.{print_at_most, run_snoc, run_longer}
 use Rattle.container.proofs.write.write_run.Goals as goal
-use Rattle.container.proofs.write.write_run.Goals.{In-loop-k}
 
-many_at_0 : (c : goal.In-loop-k) → length c.args.prints ≡ 32
-many_at_0 c = c.well_formed.0.1.0.1
+-- what a slice's reading gives past its end
+abbrev none : Print
+none = record { id = 0; mix = 0; size = 0; bytes = [] }
 
-abbrev l : (c : goal.In-loop-k) → List Print
-l c = c.args.prints
+fits : (ps : List Print) (k : ℕ) → RunFits (length ps) ps → k < length ps → PrintFits (get_or ps k none)
+fits ps k r h = subst PrintFits (get_d_any ps k blank_print none h) (r.each k h)
 
-abbrev k : (c : goal.In-loop-k) → ℕ
-k c = c.loop-k.k
-
-inside : (c : goal.In-loop-k) → (k c) < length (l c)
-inside c = omega (arith, many_at_0 c, c.requires.fits.many, c.loop-k-test.true)
-
-abbrev print : (c : goal.In-loop-k) → Print
-print c = get_or (l c) (k c) (record { id = 0; mix = 0; size = 0; bytes = [] })
-
-fits : (c : goal.In-loop-k) → PrintFits (print c)
-fits c = subst PrintFits (get_d_any (l c) (k c) blank_print _ (inside c)) (c.requires.fits.each (k c) c.loop-k-test.true)
-
-longer : (c : goal.In-loop-k) → length (run_bytes (take ((k c) + 1) (l c))) ≡ length (run_bytes (take (k c) (l c))) + length (print_bytes (print c))
-longer c = run_longer (l c) (k c) _ (inside c)
-
-short : (c : goal.In-loop-k) → length (print_bytes (print c)) ≤ 7
-short c = omega (arith, print_at_most (print c), (fits c).five)
-
-pub loop-k-init : goal.loop-k-init
+pub loop-print-init : goal.loop-print-init
 unfolding run_bytes
-loop-k-init c = (omega arith, omega arith, omega arith, refl, refl)
+loop-print-init c = (omega arith, omega arith, refl)
 
 pub write_print-next-requires-clause-fits : goal.write_print-next-requires-clause-fits
-write_print-next-requires-clause-fits c =
-    let d = c in
-    fits (goal.at.write_print-next-requires-clause-fits c).In-loop-k
+write_print-next-requires-clause-fits c = fits c.args.prints.now c.loop-print.print-index c.requires.fits (omega arith)
 
-pub loop-k-preserved : goal.loop-k-preserved
-loop-k-preserved c =
-    let w = c in
-    let d = w in
-    let i = d.loop-k.invariant in
-    let s = d in (
-      omega (arith, d.loop-k-test.true),
-      omega (arith, w.write_print-next.ensures.0, i.1, longer (goal.at.loop-k-preserved c).In-loop-k),
-      omega (arith, longer (goal.at.loop-k-preserved c).In-loop-k, short (goal.at.loop-k-preserved c).In-loop-k, i.2),
-      omega (arith, w.write_print-next.auto.out, i.3),
-      sets_then s.args.out.now _ _ (run_bytes (take (k (goal.at.loop-k-preserved c).In-loop-k) (l (goal.at.loop-k-preserved c).In-loop-k))) (print_bytes (print (goal.at.loop-k-preserved c).In-loop-k)) s.args.at d.loop-k.next i.4 i.1 w.write_print-next.ensures.1
-          ∙ ap (sets s.args.out.now s.args.at) (sym (run_snoc (l (goal.at.loop-k-preserved c).In-loop-k) (k (goal.at.loop-k-preserved c).In-loop-k) _ (inside (goal.at.loop-k-preserved c).In-loop-k))),
+pub loop-print-preserved : goal.loop-print-preserved
+loop-print-preserved c =
+    let ps : List Print = c.args.prints.now in
+    let k : ℕ = c.loop-print.print-index in
+    let p : Print = get_or ps k none in
+    let i = c.loop-print.invariant in
+    let h : k < length ps = omega arith in
+    let longer = run_longer ps k none h in (
+      omega (arith, c.write_print-next.ensures.0, i.0, longer),
+      omega (arith, longer, print_at_most p, (fits ps k c.requires.fits h).five, i.1),
+      sets_then c.args.out.now _ _ (run_bytes (take k ps)) (print_bytes p) c.args.at c.loop-print.next i.2 i.0 c.write_print-next.ensures.1
+          ∙ ap (sets c.args.out.now c.args.at) (sym (run_snoc ps k none h)),
     )

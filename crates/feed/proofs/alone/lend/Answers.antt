@@ -8,7 +8,7 @@ use Rattle.feed.proofs.alone.lend.Goals as goal
 
 pub returns-then-tag-eq34 : goal.returns-then-tag-eq34
 unfolding lent_fed
-returns-then-tag-eq34 c = rw (eq-eqb _ 0x22 c.if-tag-eq34.true) (ap (Handed Rewrite) c.rewrite-done.ensures.0, c.rewrite-done.ensures.1)
+returns-then-tag-eq34 c = rw (eq-eqb _ 0x22 c.if-tag-eq34.true) (ap (Handed Rewrite) c.rewrite.ensures.0, c.rewrite.ensures.1)
 
 pub returns-then-tag-eq37 : goal.returns-then-tag-eq37
 unfolding lent_fed

@@ -18,4 +18,4 @@ pub returns : goal.returns
 unfolding read_fed
 returns c =
     let line = reported (reading c.args.payload.now) in
-    (ap Reported c.report-size.ensures.0, c.report-size.ensures.1 ∙ ap (λ (w : List ℕ). sets w 0 line) c.requires ∙ sets_over line fresh (omega (arith, reported_size (reading c.args.payload.now), untouched_size 4096)))
+    (ap Reported c.report.ensures.0, c.report.ensures.1 ∙ ap (λ (w : List ℕ). sets w 0 line) c.requires ∙ sets_over line fresh (omega (arith, reported_size (reading c.args.payload.now), untouched_size 4096)))

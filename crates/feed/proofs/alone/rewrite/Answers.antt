@@ -20,13 +20,13 @@ module _ (bytes lent : List ℕ) (r : Reading) (e : r ≡ reading bytes) where
   unfolding rewrite_done rewrite_out
   refused h = rw (← e, ne_eqb r.number 0 h) (refl, refl)
 
-pub returns-then-number-eq0 : goal.returns-then-number-eq0
-returns-then-number-eq0 c =
+pub returns-then-r-eq0 : goal.returns-then-r-eq0
+returns-then-r-eq0 c =
     let a = c.args in
-    let h = accepted a.bytes.now a.lent.now c.read_container-r.result c.read_container-r.ensures c.if-number-eq0.true in
+    let h = accepted a.bytes.now a.lent.now c.read_container-r.result c.read_container-r.ensures c.if-r-eq0.true in
     (c.write_container.ensures.0 ∙ h.0, c.write_container.ensures.1 ∙ h.1)
 
 pub returns : goal.returns
 returns c =
     let a = c.args in
-    refused a.bytes.now a.lent.now c.read_container-r.result c.read_container-r.ensures c.if-number-eq0.false
+    refused a.bytes.now a.lent.now c.read_container-r.result c.read_container-r.ensures c.if-r-eq0.false

@@ -6,29 +6,29 @@ use Rattle.laws.proofs.Lists.{tail_part}
 use Rattle.answers.proofs.Rooms.{Roomed, roomed}
 use Rattle.feed.proofs.Steps.{gives_as, sample_none, samples}
 use Rattle.feed.proofs.alone.sample.Goals as goal
-use Rattle.feed.proofs.alone.sample.Goals.{In-Of}
+use Rattle.feed.proofs.alone.sample.Goals.{In-Ok}
 
-room : (c : goal.In-Of) → Roomed c.args.payload.now 1 c.in-Of.room c.args.work.now
-room c = roomed _ _ _ _ _ c.room_at-asked.ensures c.in-Of.is c.requires
+room : (c : goal.In-Ok) → Roomed c.args.payload.now 1 c.in-Ok.room c.args.work.now
+room c = roomed _ _ _ _ _ c.room_at.ensures c.in-Ok.is c.requires
 
 pub bounds-payload-0 : goal.bounds-payload-0
-bounds-payload-0 c = omega (arith, (room (goal.at.bounds-payload-0 c).In-Of).long)
+bounds-payload-0 c = omega (arith, (room (goal.at.bounds-payload-0 c).In-Ok).long)
 
 pub slice_bounds-sample_line-count : goal.slice_bounds-sample_line-count
-slice_bounds-sample_line-count c = (room (goal.at.slice_bounds-sample_line-count c).In-Of).long
+slice_bounds-sample_line-count c = (room (goal.at.slice_bounds-sample_line-count c).In-Ok).long
 
 pub slice_bounds-sample_line-start : goal.slice_bounds-sample_line-start
-slice_bounds-sample_line-start c = omega (arith, (room (goal.at.slice_bounds-sample_line-start c).In-Of).long)
+slice_bounds-sample_line-start c = omega (arith, (room (goal.at.slice_bounds-sample_line-start c).In-Ok).long)
 
-pub slice_bounds-sample_line-end-in-Of : goal.slice_bounds-sample_line-end-in-Of
-slice_bounds-sample_line-end-in-Of c = (room (goal.at.slice_bounds-sample_line-end-in-Of c).In-Of).fits
+pub slice_bounds-sample_line-end-in-Ok : goal.slice_bounds-sample_line-end-in-Ok
+slice_bounds-sample_line-end-in-Ok c = (room (goal.at.slice_bounds-sample_line-end-in-Ok c).In-Ok).fits
 
-pub slice_bounds-sample_line-end-in-Of-2 : goal.slice_bounds-sample_line-end-in-Of-2
-slice_bounds-sample_line-end-in-Of-2 c = (room (goal.at.slice_bounds-sample_line-end-in-Of-2 c).In-Of).size
+pub slice_bounds-sample_line-end-in-Ok-2 : goal.slice_bounds-sample_line-end-in-Ok-2
+slice_bounds-sample_line-end-in-Ok-2 c = (room (goal.at.slice_bounds-sample_line-end-in-Ok-2 c).In-Ok).size
 
-pub returns-in-Not : goal.returns-in-Not
-returns-in-Not c = gives_as _ _ _ _ (sample_none c.args.payload.now _ (sym c.room_at-asked.ensures ∙ c.in-Not.is)) (refl, c.requires)
+pub returns-in-Err : goal.returns-in-Err
+returns-in-Err c = gives_as _ _ _ _ (sample_none c.args.payload.now _ (sym c.room_at.ensures ∙ c.in-Err.is)) (refl, c.requires)
 
-pub returns-in-Of : goal.returns-in-Of
+pub returns-in-Ok : goal.returns-in-Ok
 unfolding byte_at
-returns-in-Of c = samples c.args.payload.now _ _ _ _ _ (room (goal.at.returns-in-Of c).In-Of).lent c.requires _ (sym c.room_at-asked.ensures ∙ c.in-Of.is) (tail_part c.args.payload.now 3) c.sample_line-done.ensures.value c.sample_line-done.ensures.out_after
+returns-in-Ok c = samples c.args.payload.now _ _ _ _ _ (room (goal.at.returns-in-Ok c).In-Ok).lent c.requires _ (sym c.room_at.ensures ∙ c.in-Ok.is) (tail_part c.args.payload.now 3) c.sample_line-done.ensures.value c.sample_line-done.ensures.out_after

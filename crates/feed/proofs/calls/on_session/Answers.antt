@@ -24,11 +24,11 @@ returns-then-tag-eq19 c = rw (ne_eqb _ 0x10 c.if-tag-eq16.false, ne_eqb _ 0x11 c
 
 pub returns-then-tag-eq20 : goal.returns-then-tag-eq20
 unfolding session_fed
-returns-then-tag-eq20 c = rw (ne_eqb _ 0x10 c.if-tag-eq16.false, ne_eqb _ 0x11 c.if-tag-eq17.false, ne_eqb _ 0x12 c.if-tag-eq18.false, ne_eqb _ 0x13 c.if-tag-eq19.false, eq-eqb _ 0x14 c.if-tag-eq20.true) (c.restart.ensures ∙ ap (λ (n : Session). restart_fed c.args.s n VideoRestart c.args.payload.now) c.video_restart-next.ensures, c.requires)
+returns-then-tag-eq20 c = rw (ne_eqb _ 0x10 c.if-tag-eq16.false, ne_eqb _ 0x11 c.if-tag-eq17.false, ne_eqb _ 0x12 c.if-tag-eq18.false, ne_eqb _ 0x13 c.if-tag-eq19.false, eq-eqb _ 0x14 c.if-tag-eq20.true) (c.restart.ensures ∙ ap (λ (n : Session). restart_fed c.args.s n VideoRestart c.args.payload.now) c.video_restart.ensures, c.requires)
 
 pub returns-then-tag-eq21 : goal.returns-then-tag-eq21
 unfolding session_fed
-returns-then-tag-eq21 c = rw (ne_eqb _ 0x10 c.if-tag-eq16.false, ne_eqb _ 0x11 c.if-tag-eq17.false, ne_eqb _ 0x12 c.if-tag-eq18.false, ne_eqb _ 0x13 c.if-tag-eq19.false, ne_eqb _ 0x14 c.if-tag-eq20.false, eq-eqb _ 0x15 c.if-tag-eq21.true) (c.restart-then-tag-eq21.ensures ∙ ap (λ (n : Session). restart_fed c.args.s n AudioRestart c.args.payload.now) c.audio_restart-next.ensures, c.requires)
+returns-then-tag-eq21 c = rw (ne_eqb _ 0x10 c.if-tag-eq16.false, ne_eqb _ 0x11 c.if-tag-eq17.false, ne_eqb _ 0x12 c.if-tag-eq18.false, ne_eqb _ 0x13 c.if-tag-eq19.false, ne_eqb _ 0x14 c.if-tag-eq20.false, eq-eqb _ 0x15 c.if-tag-eq21.true) (c.restart-then-tag-eq21.ensures ∙ ap (λ (n : Session). restart_fed c.args.s n AudioRestart c.args.payload.now) c.audio_restart.ensures, c.requires)
 
 pub returns-then-tag-eq22 : goal.returns-then-tag-eq22
 unfolding session_fed

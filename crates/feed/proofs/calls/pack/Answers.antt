@@ -6,26 +6,26 @@ use Rattle.laws.proofs.Lists.{tail_part}
 use Rattle.answers.proofs.Rooms.{Roomed, roomed}
 use Rattle.feed.proofs.Steps.{does_as, pack_none, packs}
 use Rattle.feed.proofs.calls.pack.Goals as goal
-use Rattle.feed.proofs.calls.pack.Goals.{In-Of}
+use Rattle.feed.proofs.calls.pack.Goals.{In-Ok}
 
-room : (c : goal.In-Of) → Roomed c.args.payload.now 0 c.in-Of.room c.args.work.now
-room c = roomed _ _ _ _ _ c.room_at-asked.ensures c.in-Of.is c.requires
+room : (c : goal.In-Ok) → Roomed c.args.payload.now 0 c.in-Ok.room c.args.work.now
+room c = roomed _ _ _ _ _ c.room_at.ensures c.in-Ok.is c.requires
 
 pub slice_bounds-pack-count : goal.slice_bounds-pack-count
-slice_bounds-pack-count c = (room (goal.at.slice_bounds-pack-count c).In-Of).long
+slice_bounds-pack-count c = (room (goal.at.slice_bounds-pack-count c).In-Ok).long
 
 pub slice_bounds-pack-start : goal.slice_bounds-pack-start
-slice_bounds-pack-start c = omega (arith, (room (goal.at.slice_bounds-pack-start c).In-Of).long)
+slice_bounds-pack-start c = omega (arith, (room (goal.at.slice_bounds-pack-start c).In-Ok).long)
 
-pub slice_bounds-pack-end-in-Of : goal.slice_bounds-pack-end-in-Of
-slice_bounds-pack-end-in-Of c = (room (goal.at.slice_bounds-pack-end-in-Of c).In-Of).fits
+pub slice_bounds-pack-end-in-Ok : goal.slice_bounds-pack-end-in-Ok
+slice_bounds-pack-end-in-Ok c = (room (goal.at.slice_bounds-pack-end-in-Ok c).In-Ok).fits
 
-pub slice_bounds-pack-end-in-Of-2 : goal.slice_bounds-pack-end-in-Of-2
-slice_bounds-pack-end-in-Of-2 c = (room (goal.at.slice_bounds-pack-end-in-Of-2 c).In-Of).size
+pub slice_bounds-pack-end-in-Ok-2 : goal.slice_bounds-pack-end-in-Ok-2
+slice_bounds-pack-end-in-Ok-2 c = (room (goal.at.slice_bounds-pack-end-in-Ok-2 c).In-Ok).size
 
-pub returns-in-Not : goal.returns-in-Not
-returns-in-Not c = does_as _ _ _ _ (pack_none c.args.payload.now _ c.args.s (sym c.room_at-asked.ensures ∙ c.in-Not.is)) (c.bad.ensures, c.requires)
+pub returns-in-Err : goal.returns-in-Err
+returns-in-Err c = does_as _ _ _ _ (pack_none c.args.payload.now _ c.args.s (sym c.room_at.ensures ∙ c.in-Err.is)) (c.bad.ensures, c.requires)
 
-pub returns-in-Of : goal.returns-in-Of
+pub returns-in-Ok : goal.returns-in-Ok
 unfolding packed done_of
-returns-in-Of c = packs c.args.payload.now _ _ _ _ _ (room (goal.at.returns-in-Of c).In-Of).lent c.requires c.args.s c.pack-p.result (sym c.room_at-asked.ensures ∙ c.in-Of.is) (tail_part c.args.payload.now 2) c.pack-p.ensures.0 c.pack-p.ensures.1
+returns-in-Ok c = packs c.args.payload.now _ _ _ _ _ (room (goal.at.returns-in-Ok c).In-Ok).lent c.requires c.args.s c.pack-p.result (sym c.room_at.ensures ∙ c.in-Ok.is) (tail_part c.args.payload.now 2) c.pack-p.ensures.0 c.pack-p.ensures.1

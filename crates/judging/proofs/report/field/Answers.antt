@@ -13,7 +13,7 @@ use Rattle.judging.specs.Lines.{faults_text}
 use Rattle.judging.specs.Report.{field_size, packet_in, judged, lines_of, gone_on}
 use Rattle.judging.proofs.Reports.{Left, refused_before, no_byte, refused_here, judged_here, whole_field}
 use Rattle.judging.proofs.report.field.Goals as goal
-use Rattle.judging.proofs.report.field.Goals.{After-pair_at-end, After-put_faults-size}
+use Rattle.judging.proofs.report.field.Goals.{After-pair_at-end, After-put_faults-size, then-r-ne0-via-then-r-ne0, then-r-ne0-via-else-r-ne0+then-bytes-eq0}
 
 -- the field is one of 500, and whole
 whole : (c : goal.After-pair_at-end) → (c.args.r.packets < 500) × (field_size c.args.bytes.now ≤ length c.args.bytes.now)
@@ -24,12 +24,10 @@ whole c =
 pub returns-then-r-ne0-clause-value : goal.returns-then-r-ne0-clause-value
 returns-then-r-ne0-clause-value c =
     let a = c.args in
-    (refused_before a.r a.bytes.now a.out.now c.if-r-ne0.true).0
-
-pub returns-then-bytes-eq0-clause-value : goal.returns-then-bytes-eq0-clause-value
-returns-then-bytes-eq0-clause-value c =
-    let a = c.args in
-    (no_byte a.r a.bytes.now a.out.now c.if-r-ne0.false c.if-bytes-eq0.true).0
+    elim c.then-r-ne0.branch [
+      | then-r-ne0-via-then-r-ne0 w ↦ (refused_before a.r a.bytes.now a.out.now w.if-r-ne0.true).0
+      | then-r-ne0-via-else-r-ne0+then-bytes-eq0 w ↦ (no_byte a.r a.bytes.now a.out.now w.if-r-ne0.false w.if-bytes-eq0.true).0
+    ]
 
 pub returns-then-number-ne0-clause-value : goal.returns-then-number-ne0-clause-value
 returns-then-number-ne0-clause-value c =

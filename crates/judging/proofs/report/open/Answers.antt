@@ -6,4 +6,4 @@ use Rattle.judging.proofs.report.open.Goals as goal
 
 pub returns : goal.returns
 unfolding fresh_report
-returns c = rw c.fresh-known.ensures (refl, record { packets = omega arith; size = omega arith })
+returns c = rw c.fresh.ensures (refl, record { packets = omega arith; size = omega arith })

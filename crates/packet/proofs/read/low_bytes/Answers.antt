@@ -11,12 +11,11 @@ use Rattle.packet.proofs.read.low_bytes.Goals as goal
 pub loop-i-preserved : goal.loop-i-preserved
 unfolding low
 loop-i-preserved c =
-    let ws = words_of c.args.words.now in
     let l = c.loop-i in
-    (search rules, search rules, l.invariant.2 ∙ low_next ws l.out l.i (rw length_words_of (search rules)) ∙ (rw c.word_at.ensures))
+    l.invariant ∙ low_next (words_of c.args.words.now) l.out l.i (rw length_words_of (search rules)) ∙ (rw c.word_at.ensures)
 
 pub returns : goal.returns
 returns c =
     let ws = words_of c.args.words.now in
     let l = c.loop-i in
-    sym (l.invariant.2 ∙ ap (λ (t : List ℕ). sets l.out l.i (map low t)) (drop_of_length-le ws {i = l.i} (rw length_words_of (search rules))))
+    sym (l.invariant ∙ ap (λ (t : List ℕ). sets l.out l.i (map low t)) (drop_of_length-le ws {i = l.i} (rw length_words_of (search rules))))

@@ -13,7 +13,7 @@ pub loop-i-preserved : goal.loop-i-preserved
 loop-i-preserved c =
     let ws = words_of c.args.words.now in
     let l = c.loop-i in
-    (search rules, search rules, turn _ _ _ _ ((rw (sum9_next ws l.i (rw length_words_of (search rules)), ← c.word_at.ensures) at l.invariant.2)))
+    (search rules, turn _ _ _ _ ((rw (sum9_next ws l.i (rw length_words_of (search rules)), ← c.word_at.ensures) at l.invariant.1)))
 
 pub returns : goal.returns
 unfolding check_word with_bit9

@@ -1,12 +1,9 @@
 -- `packet::words::check_of` meets its contract. The loop's invariant: what is summed with what is left is the whole sum, modulo 512.
-use Prim.Native.Nat.{◌+◌, ◌-◌, ◌/◌, ◌%◌, ◌≤◌, ◌<◌}
+use Prim.Native.Nat.{◌+◌, ◌%◌, ◌<◌}
 use mathlib.Core.Path.{◌≡◌}
-use lib.ListN.{length, drop}
+use lib.ListN.{drop}
 use Rattle.packet.specs.Words.{sum9, words_of}
 use Rattle.packet.proofs.words.check_of.Given as goal
 
 abbrev pub invariant-loop-i : goal.invariant-loop-i
-invariant-loop-i l = (l.i ≤ length l.words / 2) × (l.sum < 512) × ((l.sum + sum9 (drop l.i (words_of l.words))) % 512 ≡ sum9 (words_of l.words) % 512)
-
-abbrev pub decreases-loop-i : goal.decreases-loop-i
-decreases-loop-i l = length l.words / 2 - l.i
+invariant-loop-i l = (l.sum < 512) × ((l.sum + sum9 (drop l.i (words_of l.words))) % 512 ≡ sum9 (words_of l.words) % 512)

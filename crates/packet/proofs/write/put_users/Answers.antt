@@ -10,13 +10,11 @@ use Rattle.packet.proofs.write.put_users.Goals as goal
 
 pub loop-i-preserved : goal.loop-i-preserved
 loop-i-preserved c =
-    let s = c.args.container.now in
     let l = c.loop-i in
-    let put = c.put_word in
-    (search rules, search rules, l.invariant.2 ∙ user_next s l.out l.i (search rules) ∙ (rw (put.ensures, c.word_of.ensures)))
+    l.invariant ∙ user_next c.args.container.now l.out l.i (search rules) ∙ (rw (c.put_word.ensures, c.word_of.ensures))
 
 pub returns : goal.returns
 unfolding bytes_of
 returns c =
     let l = c.loop-i in
-    sym (l.invariant.2 ∙ ap (λ (t : List ℕ). sets l.out (12 + 2 * l.i) (bytes_of (map word_of t))) (drop_of_length-le c.args.container.now {i = l.i} (search rules)))
+    sym (l.invariant ∙ ap (λ (t : List ℕ). sets l.out (12 + 2 * l.i) (bytes_of (map word_of t))) (drop_of_length-le c.args.container.now {i = l.i} (search rules)))

@@ -29,7 +29,7 @@ small f g i =
 
 pub loop-i-init : goal.loop-i-init
 unfolding brighter_in darker_in count_of
-loop-i-init c = (search rules, refl, refl)
+loop-i-init c = (refl, refl)
 
 pub with_one-brighter-requires : goal.with_one-brighter-requires
 with_one-brighter-requires c =
@@ -53,7 +53,6 @@ loop-i-preserved c =
     let k : l.loop-i.i < length a.older.now = omega arith in
     let s : SFits w16 d.difference-d.result = search rules in
     let b = c.is_brighter.ensures in (
-      search rules,
-      one_turn _ _ _ h k _ s d.difference-d.ensures is_brighter l.loop-i.invariant.1 b c.with_one-brighter.ensures,
-      one_turn _ _ _ h k _ s d.difference-d.ensures is_darker l.loop-i.invariant.2 c.is_darker.ensures c.with_one-darker.ensures,
+      one_turn _ _ _ h k _ s d.difference-d.ensures is_brighter l.loop-i.invariant.0 b c.with_one-brighter.ensures,
+      one_turn _ _ _ h k _ s d.difference-d.ensures is_darker l.loop-i.invariant.1 c.is_darker.ensures c.with_one-darker.ensures,
     )

@@ -1,5 +1,4 @@
 -- `picture::compare::counted` meets its contract. The loop's invariant: the counts of the places passed.
-use Prim.Native.Nat.{◌-◌, ◌≤◌}
 use mathlib.Core.Path.{◌≡◌}
 use lib.ListN.{take}
 use Rattle.picture.specs.Fields.{brighter_in, darker_in}
@@ -7,7 +6,4 @@ use Rattle.picture.proofs.compare.counted.Given as goal
 
 abbrev pub invariant-loop-i : goal.invariant-loop-i
 invariant-loop-i l =
-    (l.i ≤ 960) × (l.brighter ≡ brighter_in (take l.i l.field) (take l.i l.older)) × (l.darker ≡ darker_in (take l.i l.field) (take l.i l.older))
-
-abbrev pub decreases-loop-i : goal.decreases-loop-i
-decreases-loop-i l = 960 - l.i
+    (l.brighter ≡ brighter_in (take l.i l.field) (take l.i l.older)) × (l.darker ≡ darker_in (take l.i l.field) (take l.i l.older))

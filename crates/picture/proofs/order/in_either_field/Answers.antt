@@ -11,12 +11,12 @@ first c = sym c.is_among.ensures ∙ c.if-is_among.false
 
 pub returns-then-is_among : goal.returns-then-is_among
 unfolding monitored
-returns-then-is_among c = simp (sym c.is_among.ensures ∙ c.if-is_among.true)
+returns-then-is_among c = simp (c.if-is_among.true, sym c.is_among.ensures ∙ c.if-is_among.true)
 
-pub returns-then-r-eq0 : goal.returns-then-r-eq0
+pub returns-then-r-ne0 : goal.returns-then-r-ne0
 unfolding monitored interlaced
-returns-then-r-eq0 c = simp (first (goal.at.returns-then-r-eq0 c).Else-is_among, eq-eqb _ _ c.if-r-eq0.true)
+returns-then-r-ne0 c = simp (first (goal.at.returns-then-r-ne0 c).Else-is_among, ne_eqb _ _ c.if-r-ne0.true, c.is_among-then-r-ne0.ensures)
 
-pub returns : goal.returns
+pub returns-else-r-ne0 : goal.returns-else-r-ne0
 unfolding monitored interlaced
-returns c = simp (first (goal.at.returns c).Else-is_among, ne_eqb _ _ c.if-r-eq0.false, c.is_among-2.ensures)
+returns-else-r-ne0 c = simp (first (goal.at.returns-else-r-ne0 c).Else-is_among, eq-eqb _ _ c.if-r-ne0.false)

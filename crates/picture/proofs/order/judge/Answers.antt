@@ -10,7 +10,7 @@ use Rattle.sampling.proofs.Table.{listed}
 use Rattle.picture.specs.Lines.{line_number, judged_number}
 use Rattle.picture.proofs.Judged.{Small, small}
 use Rattle.picture.proofs.order.judge.Goals as goal
-use Rattle.picture.proofs.order.judge.Goals.{After-row_of-r, Else-format-ge8, Else-len-r, Else-row-ge16}
+use Rattle.picture.proofs.order.judge.Goals.{After-row_of-r, Else-format-ge8, Else-len-r, Else-row-ge16, then-format-ge8-via-then-format-ge8, then-format-ge8-via-else-format-ge8+then-row-ge16, then-number-lt1-via-then-number-lt1, then-number-lt1-via-else-number-lt1+then-r-number}
 
 listed_format : (c : goal.Else-format-ge8) → ltb c.args.format 8 ≡ true
 listed_format c = lt-ltb _ _ c.if-format-ge8.false
@@ -26,11 +26,11 @@ long c = eq-eqb _ _ (rw c.row_of-r.ensures at c.if-len-r.false)
 
 pub returns-then-format-ge8 : goal.returns-then-format-ge8
 unfolding judged_number
-returns-then-format-ge8 c = simp (le-ltb _ _ c.if-format-ge8.true)
-
-pub returns-then-row-ge16 : goal.returns-then-row-ge16
-unfolding judged_number
-returns-then-row-ge16 c = simp (listed_format (goal.at.returns-then-row-ge16 c).Else-format-ge8, le-ltb _ _ c.if-row-ge16.true)
+returns-then-format-ge8 c =
+    elim c.then-format-ge8.branch [
+      | then-format-ge8-via-then-format-ge8 w ↦ simp (le-ltb _ _ w.if-format-ge8.true)
+      | then-format-ge8-via-else-format-ge8+then-row-ge16 w ↦ simp (lt-ltb _ _ w.if-format-ge8.false, le-ltb _ _ w.if-row-ge16.true)
+    ]
 
 pub overflow_mul-r : goal.overflow_mul-r
 overflow_mul-r c = omega (arith, (row_small (goal.at.overflow_mul-r c).After-row_of-r).wide)
@@ -44,17 +44,12 @@ returns-then-len-r c =
 pub returns-then-number-lt1 : goal.returns-then-number-lt1
 unfolding judged_number line_number
 returns-then-number-lt1 c =
-    let e = c in
-    let b = e in
-    simp (listed_format (goal.at.returns-then-number-lt1 c).Else-format-ge8, in_field (goal.at.returns-then-number-lt1 c).Else-row-ge16, long (goal.at.returns-then-number-lt1 c).Else-len-r, lt-leb _ _ c.if-number-lt1.true)
-
-pub returns-then-r-number : goal.returns-then-r-number
-unfolding judged_number line_number
-returns-then-r-number c =
-    let d = c in
-    let e = d in
-    let b = e in
-    simp (listed_format (goal.at.returns-then-r-number c).Else-format-ge8, in_field (goal.at.returns-then-r-number c).Else-row-ge16, long (goal.at.returns-then-r-number c).Else-len-r, le-leb _ _ d.if-number-lt1.false, lt-leb _ _ (rw e.row_of-r.ensures at c.if-r-number.true))
+    let p = goal.at.returns-then-number-lt1 c in
+    elim c.then-number-lt1.branch [
+      | then-number-lt1-via-then-number-lt1 w ↦ simp (listed_format p.Else-format-ge8, in_field p.Else-row-ge16, long p.Else-len-r, lt-leb _ _ w.if-number-lt1.true)
+      | then-number-lt1-via-else-number-lt1+then-r-number w ↦
+          simp (listed_format p.Else-format-ge8, in_field p.Else-row-ge16, long p.Else-len-r, le-leb _ _ w.if-number-lt1.false, lt-leb _ _ (rw c.row_of-r.ensures at w.if-r-number.true))
+    ]
 
 pub due_line-requires : goal.due_line-requires
 due_line-requires c =
@@ -67,9 +62,6 @@ in_order-requires c = (row_small (goal.at.in_order-requires c).After-row_of-r).a
 pub returns : goal.returns
 unfolding judged_number line_number
 returns c =
-    let f = c in
-    let d = f in
-    let e = d in
-    let r = e.row_of-r.ensures in
-    let b = e in
-    simp (listed_format (goal.at.returns c).Else-format-ge8, in_field (goal.at.returns c).Else-row-ge16, long (goal.at.returns c).Else-len-r, le-leb _ _ d.if-number-lt1.false, le-leb _ _ (rw r at f.if-r-number.false), c.in_order.ensures, c.due_line.ensures, r)
+    let p = goal.at.returns c in
+    let r = c.row_of-r.ensures in
+    simp (listed_format p.Else-format-ge8, in_field p.Else-row-ge16, long p.Else-len-r, le-leb _ _ c.if-number-lt1.false, le-leb _ _ (rw r at c.if-r-number.false), c.in_order.ensures, c.due_line.ensures, r)

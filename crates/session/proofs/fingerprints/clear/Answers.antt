@@ -20,7 +20,7 @@ loop-k-preserved c =
     let fs : List Fingerprint = c.args.fingerprints in (
       omega arith,
       l.invariant.1,
-      ap (λ (f : Fingerprint). set l.next l.k f) c.restart-g.ensures
+      ap (λ (f : Fingerprint). set l.next l.k f) c.restart.ensures
           ∙ ap (λ (o : List Fingerprint). set o l.k (cleared (get_or o l.k no_fingerprint))) l.invariant.2
           ∙ each_more cleared no_fingerprint l.k fs (omega (arith, l.invariant.1, c.requires)),
     )

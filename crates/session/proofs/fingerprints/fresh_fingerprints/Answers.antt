@@ -18,9 +18,9 @@ loop-k-preserved c =
     let s : List Fingerprint = map fresh_of ms in
     let n : length s ≡ length ms = length-map ms fresh_of in (
       omega arith,
-      ap (λ (o : List Fingerprint). set o l.k c.fresh-f.result) l.invariant.1
-          ∙ fill_step (fresh_of 0) (replicate 32 (fresh_of 0)) s l.k c.fresh-f.result (omega (arith, c.requires)) (omega arith)
-          (c.fresh-f.ensures ∙ fresh_at ms l.k (fresh_of 0) (omega arith)),
+      ap (λ (o : List Fingerprint). set o l.k c.fresh.result) l.invariant.1
+          ∙ fill_step (fresh_of 0) (replicate 32 (fresh_of 0)) s l.k c.fresh.result (omega (arith, c.requires)) (omega arith)
+          (c.fresh.ensures ∙ fresh_at ms l.k (fresh_of 0) (omega arith)),
     )
 
 pub returns : goal.returns

@@ -35,7 +35,7 @@ ps c = prints_of (due c) 0 c.args.n (fs c)
 
 pub loop-k-init : goal.loop-k-init
 unfolding each
-loop-k-init c = (omega arith, c.well_formed.0.1.0.1, rw c.blank_print-none.ensures, refl)
+loop-k-init c = (omega arith, c.well_formed.0.1.0.1, rw c.blank_print-said.ensures, refl)
 
 pub loop-k-preserved : goal.loop-k-preserved
 unfolding part_of

@@ -1,6 +1,6 @@
 -- `session::packing::make` meets its contract.
 use Prim.Native.Nat.{ℕ}
-use mathlib.Core.Path.{◌≡◌}
+use mathlib.Core.Path.{◌≡◌, ◌∙◌}
 use mathlib.Core.Bool.{Bool}
 use mathlib.Core.List.{List}
 use lib.Dec.{eqb}
@@ -12,6 +12,7 @@ use Rattle.session.specs.declared.fingerprints.Parts.{Parts}
 use Rattle.session.specs.declared.packing.Packing.{Packing}
 use Rattle.session.specs.Fingerprints.{all_hold, parts_of}
 use Rattle.session.specs.Packing.{id_of, due_of, has_audio, spoken_with, spoken_of, contents_of, counter_after, place_with, place_from, session_after, packing_of}
+use Rattle.session.proofs.Lists.{hold_all}
 use Rattle.session.proofs.packing.make.Goals as goal
 
 -- what the pieces make, whatever made them
@@ -42,5 +43,5 @@ unfolding due_of
 returns c =
     let s = c.args.s in
     let id : List ℕ = c.args.id.now in
-    made s id _ _ _ _ _ _ _ _ c.bytes_due-due.ensures c.all_hold-audio.ensures c.spoken-count.ensures c.say_all-parts.ensures
+    made s id _ _ _ _ _ _ _ _ c.bytes_due-due.ensures (c.all_hold-audio.ensures ∙ hold_all _ _ _) c.spoken-count.ensures c.say_all-parts.ensures
     c.hand_out-h.ensures.0 c.id_bytes-bytes.ensures c.counter_after.ensures c.place_after.ensures

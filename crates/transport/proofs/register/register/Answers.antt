@@ -12,21 +12,18 @@ one_more : (reg : ℕ) (l : List ℕ) (i : ℕ) → i < length l → run reg (dr
 unfolding run
 one_more reg l i h = rw (drop-cons l i 0, add-one)
 
-pub loop-i-init : goal.loop-i-init
+pub loop-byte-init : goal.loop-byte-init
 unfolding register_of
-loop-i-init c = (omega arith, refl)
+loop-byte-init c = refl
 
-pub loop-i-preserved : goal.loop-i-preserved
-loop-i-preserved c =
-    let at = c in
-    let bytes = at.args.bytes.now in (
-      omega arith,
-      at.loop-i.invariant.1 ∙ one_more at.loop-i.reg bytes at.loop-i.i (omega arith)
-          ∙ ap (λ (x : ℕ). run x (drop (at.loop-i.i + 1) bytes)) (sym c.step-reg.ensures),
-    )
+pub loop-byte-preserved : goal.loop-byte-preserved
+loop-byte-preserved c =
+    let bytes = c.args.bytes.now in
+    let l = c.loop-byte in
+    l.invariant ∙ one_more l.reg bytes l.byte-index (omega arith) ∙ ap (λ (x : ℕ). run x (drop (l.byte-index + 1) bytes)) (sym c.step-reg.ensures)
 
 pub returns : goal.returns
 unfolding run
 returns c =
-    let bytes = c.args.bytes.now in
-    sym (c.loop-i.invariant.1 ∙ ap (run c.loop-i.reg) (drop_of_length-le bytes {i = c.loop-i.i} (omega arith)))
+    let l = c.loop-byte in
+    sym (l.invariant ∙ ap (run l.reg) (drop_of_length-le c.args.bytes.now {i = l.byte-index} (omega arith)))

@@ -1,7 +1,0 @@
--- `picture::restart` meets its contract.
-use Rattle.picture.specs.Pictures.{restarted}
-use Rattle.picture.proofs.restart.Goals as goal
-
-pub returns : goal.returns
-unfolding restarted
-returns c = c.empty_with.ensures
