@@ -37,7 +37,7 @@ fn bytes_in(sum: u64, bytes: [u8; 5]) -> u64
 fn four_or_five(f: Fingerprint) -> usize
     ensures { result ≡ four_or_five f }
 {
-    if fingerprint::holds(f, 5) { 5 } else { 4 }
+    if f.holds(5) { 5 } else { 4 }
 }
 
 // Bytes are taken and summed.
@@ -45,10 +45,11 @@ fn taken_in(sum: u64, f: Fingerprint) -> Turn
     requires { sum < 4294967296 }
     ensures { (result ≡ taken_in sum f) × (result.sum < 4294967296) }
 {
-    let taken = fingerprint::take(f, four_or_five(f));
+    let mut fingerprint = f;
+    let bytes = fingerprint.take(four_or_five(f));
     Turn {
-        fingerprint: taken.fingerprint,
-        sum: bytes_in(sum, taken.bytes),
+        fingerprint,
+        sum: bytes_in(sum, bytes),
     }
 }
 
@@ -56,7 +57,9 @@ fn block_in(t: Turn, rule: u8, d: u8, block: &[u8]) -> Turn
     requires { t.sum < 4294967296 }
     ensures { (result ≡ next_turn rule d block.now t) × (result.sum < 4294967296) }
 {
-    taken_in(t.sum, fingerprint::heard(t.fingerprint, rule, d, block))
+    let mut fingerprint = t.fingerprint;
+    fingerprint.hear(rule, d, block);
+    taken_in(t.sum, fingerprint)
 }
 
 // A sum over the bytes taken in so many turns.
@@ -65,7 +68,7 @@ pub extern "C" fn bench_audio(rule: u8, mix: u8, d: u8, block: &[u8], rounds: us
     ensures { result ≡ sum_after rule mix d block.now rounds }
 {
     let mut t = Turn {
-        fingerprint: fingerprint::fresh(mix),
+        fingerprint: Fingerprint::fresh(mix),
         sum: 0,
     };
     for _i in 0..rounds {
@@ -100,10 +103,14 @@ pub fn instant_of(mix: u8, values: &[f32]) -> Instant
 fn instant_in(f: Fingerprint, rule: u8, d: u8, i: Instant) -> Fingerprint
     ensures { result ≡ instant_in rule d f i }
 {
-    if fingerprint::instant_number(f, d, i) != 0 {
-        return f;
+    let mut next = f;
+    match f.check_instant(d, i) {
+        Ok(()) => {
+            next.hear_instant(rule, d, i);
+            next
+        }
+        Err(_) => f,
     }
-    fingerprint::heard_instant(f, rule, d, i)
 }
 
 // The first n instants that values hold one after the other.
@@ -135,7 +142,7 @@ pub extern "C" fn bench_floats(rule: u8, mix: u8, d: u8, values: &[f32], rounds:
     ensures { result ≡ float_sum_after rule mix d values.now rounds }
 {
     let mut t = Turn {
-        fingerprint: fingerprint::fresh(mix),
+        fingerprint: Fingerprint::fresh(mix),
         sum: 0,
     };
     for _i in 0..rounds {

@@ -12,26 +12,23 @@ fn turn_after(k: usize, last: usize) -> usize
 }
 
 // The first n instants that values hold one after the other.
-fn instants_heard(s: Session, last: usize, mix: u8, values: &[f32], n: usize) -> Session
+fn instants_heard(s: &mut Session, last: usize, mix: u8, values: &[f32], n: usize)
     requires { n * mix ≤ length values.now }
-    ensures { result ≡ instants_heard last mix values.now s n }
+    ensures { s.new ≡ instants_heard last mix values.now s.old n }
 {
-    let mut t = s;
     let mut k = 0;
     for i in 0..n {
         let at = i * (mix as usize);
-        t = session::instant(t, k, bench_audio::instant_of(mix, &values[at..])).session;
+        let _ = s.instant(k, bench_audio::instant_of(mix, &values[at..]));
         k = turn_after(k, last);
     }
-    t
 }
 
 // And all of them.
-pub(crate) fn all_heard(s: Session, count: usize, mix: u8, values: &[f32]) -> Session
-    ensures { result ≡ all_heard count mix values.now s }
+pub(crate) fn all_heard(s: &mut Session, count: usize, mix: u8, values: &[f32])
+    ensures { s.new ≡ all_heard count mix values.now s.old }
 {
-    if mix == 0 || count == 0 {
-        return s;
+    if mix != 0 && count != 0 {
+        instants_heard(s, count - 1, mix, values, values.len() / (mix as usize));
     }
-    instants_heard(s, count - 1, mix, values, values.len() / (mix as usize))
 }

@@ -27,71 +27,70 @@ struct Turn {
     sum: u64,
 }
 
-// The 16 lines of the field whose first is this one.
-fn field(s: Session, first: usize, step: usize, line: &[u8]) -> Session
-    requires { (first ≤ 2250) × (step ≤ 2250) }
-    ensures { result ≡ field_lines s first step line.now 16 }
+// The session that a setup gives: an empty one where it is refused.
+fn begin(format: u8, rate: u8, rule: u8, mixes: &[u8]) -> Session
+    ensures { result ≡ (setup_of format rate rule mixes.now).session }
 {
-    let mut t = s;
+    let mut s = Session::empty();
+    let _ = s.setup(format, rate, rule, mixes);
+    s
+}
+
+// The 16 lines of the field whose first is this one.
+fn field(s: &mut Session, first: usize, step: usize, line: &[u8])
+    requires { (first ≤ 2250) × (step ≤ 2250) }
+    ensures { s.new ≡ field_lines s.old first step line.now 16 }
+{
     for k in 0..16 {
-        t = session::line(t, first + step * k, line).session;
+        let _ = s.line(first + step * k, line);
     }
-    t
 }
 
 // The monitored lines of a frame.
-fn fields(s: Session, format: u8, line: &[u8]) -> Session
-    ensures { result ≡ fields_of (row_of format) line.now s }
+fn fields(s: &mut Session, format: u8, line: &[u8])
+    ensures { s.new ≡ fields_of (row_of format) line.now s.old }
 {
     let row = sampling::row_of(format);
-    let one = field(s, row.vstart1, row.vstep, line);
-    if row.vstart2 == 0 {
-        one
-    } else {
-        field(one, row.vstart2, row.vstep, line)
+    field(s, row.vstart1, row.vstep, line);
+    if row.vstart2 != 0 {
+        field(s, row.vstart2, row.vstep, line);
     }
 }
 
 // So many lines that are not monitored.
-fn others(s: Session, n: usize, line: &[u8]) -> Session
-    ensures { result ≡ other_lines s line.now n }
+fn others(s: &mut Session, n: usize, line: &[u8])
+    ensures { s.new ≡ other_lines s.old line.now n }
 {
-    let mut t = s;
     for _k in 0..n {
-        t = session::line(t, 1000, line).session;
+        let _ = s.line(1000, line);
     }
-    t
 }
 
 // A block for each of the first fingerprints.
-fn each_heard(s: Session, count: usize, block: &[u8]) -> Session
-    ensures { result ≡ each_heard block.now s count }
+fn each_heard(s: &mut Session, count: usize, block: &[u8])
+    ensures { s.new ≡ each_heard block.now s.old count }
 {
-    let mut t = s;
     for k in 0..count {
-        t = session::sound(t, k, block).session;
+        let _ = s.sound(k, block);
     }
-    t
 }
 
 // So many blocks for each of them.
-fn heard(s: Session, count: usize, n: usize, block: &[u8]) -> Session
-    ensures { result ≡ sounds count block.now s n }
+fn heard(s: &mut Session, count: usize, n: usize, block: &[u8])
+    ensures { s.new ≡ sounds count block.now s.old n }
 {
-    let mut t = s;
     for _k in 0..n {
-        t = each_heard(t, count, block);
+        each_heard(s, count, block);
     }
-    t
 }
 
 // A frame that is ready, with its sound.
-fn filled(s: Session, load: Load, line: &[u8], block: &[u8]) -> Session
-    ensures { result ≡ filled_with load line.now block.now s }
+fn fill(s: &mut Session, load: Load, line: &[u8], block: &[u8])
+    ensures { s.new ≡ filled_with load line.now block.now s.old }
 {
-    let ready = fields(s, load.format, line);
-    let more = others(ready, load.others, line);
-    heard(more, load.count, load.blocks, block)
+    fields(s, load.format, line);
+    others(s, load.others, line);
+    heard(s, load.count, load.blocks, block);
 }
 
 #[tactic(auto, unfolding(crate::specs::Frames::byte_in))]
@@ -113,35 +112,57 @@ fn bytes_in(sum: u64, bytes: &[u8]) -> u64
     total
 }
 
-// A frame that is ready is packed, with no ID, and the room lent for its container goes into the sum.
-fn packed(ready: Session, sum: u64, line: &[u8], out: &mut [u8]) -> Turn
-    requires { sum < 4294967296 }
-    ensures { (result ≡ packed_in out.old ready sum) × (result.sum < 4294967296) }
-{
-    let packed = session::pack(ready, &line[..0], out);
-    Turn {
-        session: packed.session,
-        sum: bytes_in(sum, out),
+impl Turn {
+    // A frame that is ready is packed, with no ID, and the room lent for its container goes into the sum.
+    fn pack(&mut self, out: &mut [u8])
+        requires { self.old.sum < 4294967296 }
+        ensures { (self.new ≡ packed_in out.old self.old.session self.old.sum) × (self.new.sum < 4294967296) }
+    {
+        let _ = self.session.pack(&[], out);
+        self.sum = bytes_in(self.sum, out);
+    }
+
+    fn frame(&mut self, load: Load, line: &[u8], block: &[u8])
+        requires { (self.old.sum < 4294967296) × (load.room ≤ 254) }
+        ensures { (self.new ≡ frame_of load line.now block.now self.old) × (self.new.sum < 4294967296) }
+    {
+        fill(&mut self.session, load, line, block);
+        let mut out = [0u8; 254];
+        self.pack(&mut out[..load.room]);
+    }
+
+    fn frame_at(&mut self, i: usize, load: Load, even: &[u8], odd: &[u8], block: &[u8])
+        requires { (self.old.sum < 4294967296) × (load.room ≤ 254) }
+        ensures { (self.new ≡ frame_of load (line_at even.now odd.now (turn_at (row_of load.format) i)) block.now self.old) × (self.new.sum < 4294967296) }
+    {
+        if turn_at(load.format, i) % 2 == 0 {
+            self.frame(load, even, block);
+        } else {
+            self.frame(load, odd, block);
+        }
+    }
+
+    // A frame with instants for each fingerprint, and its container, which fits in 254 bytes.
+    fn instant_frame(&mut self, count: usize, mix: u8, line: &[u8], values: &[f32])
+        requires { self.old.sum < 4294967296 }
+        ensures { (self.new ≡ instant_frame count mix line.now values.now self.old) × (self.new.sum < 4294967296) }
+    {
+        fields(&mut self.session, 3, line);
+        instants::all_heard(&mut self.session, count, mix, values);
+        let mut out = [0u8; 254];
+        self.pack(&mut out);
     }
 }
 
-fn frame(t: Turn, load: Load, line: &[u8], block: &[u8]) -> Turn
-    requires { (t.sum < 4294967296) × (load.room ≤ 254) }
-    ensures { (result ≡ frame_of load line.now block.now t) × (result.sum < 4294967296) }
-{
-    let ready = filled(t.session, load, line, block);
-    let mut out = [0u8; 254];
-    packed(ready, t.sum, line, &mut out[..load.room])
-}
-
-// So many packings of one session that is ready: it is a value, and each finds it as it was.
-fn packed_again(ready: Session, rounds: usize, line: &[u8]) -> u64
-    ensures { result ≡ packings ready rounds }
+// So many packings of one session that is ready: each finds it as it was.
+fn packed_again(ready: &Session, rounds: usize) -> u64
+    ensures { result ≡ packings ready.now rounds }
 {
     let mut sum = 0;
     for _i in 0..rounds {
+        let mut s = *ready;
         let mut out = [0; 32];
-        session::pack(ready, &line[..0], &mut out);
+        let _ = s.pack(&[], &mut out);
         sum = bytes_in(sum, &out);
     }
     sum
@@ -155,16 +176,6 @@ fn turn_at(format: u8, i: usize) -> usize
     if row.vstart2 == 0 { i / 2 } else { i }
 }
 
-fn frame_at(i: usize, t: Turn, load: Load, even: &[u8], odd: &[u8], block: &[u8]) -> Turn
-    requires { (t.sum < 4294967296) × (load.room ≤ 254) }
-    ensures { (result ≡ frame_of load (line_at even.now odd.now (turn_at (row_of load.format) i)) block.now t) × (result.sum < 4294967296) }
-{
-    if turn_at(load.format, i) % 2 == 0 {
-        return frame(t, load, even, block);
-    }
-    frame(t, load, odd, block)
-}
-
 // A sum over the containers of so many frames.
 fn frames(s: Session, load: Load, rounds: usize, even: &[u8], odd: &[u8], block: &[u8]) -> u64
     requires { load.room ≤ 254 }
@@ -172,7 +183,7 @@ fn frames(s: Session, load: Load, rounds: usize, even: &[u8], odd: &[u8], block:
 {
     let mut t = Turn { session: s, sum: 0 };
     for i in 0..rounds {
-        t = frame_at(i, t, load, even, odd, block);
+        t.frame_at(i, load, even, odd, block);
     }
     t.sum
 }
@@ -203,9 +214,7 @@ pub extern "C" fn bench_session(
 ) -> u64
     ensures { result ≡ sum_after (two_of1080i extra blocks) even.now odd.now block.now (begun_with rule mix) rounds }
 {
-    let mixes = [mix, mix];
-    let begun = session::setup(3, 5, rule, &mixes);
-    let s = begun.session;
+    let s = begin(3, 5, rule, &[mix, mix]);
     let load = two_of_1080i(extra, blocks);
     frames(s, load, rounds, even, odd, block)
 }
@@ -223,8 +232,7 @@ pub extern "C" fn bench_frames(
 ) -> u64
     ensures { result ≡ sum_after (block_each format (length mixes.now)) even.now odd.now block.now (setup_of format rate 1 mixes.now).session rounds }
 {
-    let begun = session::setup(format, rate, 1, mixes);
-    let s = begun.session;
+    let s = begin(format, rate, 1, mixes);
     let load = Load {
         format,
         others: 0,
@@ -247,27 +255,12 @@ pub extern "C" fn bench_pack(
 ) -> u64
     ensures { result ≡ packings (second_with mix blocks even.now odd.now block.now) rounds }
 {
-    let mixes = [mix, mix];
-    let begun = session::setup(3, 5, 1, &mixes);
-    let s = begun.session;
+    let s = begin(3, 5, 1, &[mix, mix]);
     let load = two_of_1080i(0, blocks);
-    let t = Turn { session: s, sum: 0 };
-    let first = frame(t, load, even, block);
-    let between = first.session;
-    let ready = filled(between, load, odd, block);
-    packed_again(ready, rounds, even)
-}
-
-// A frame with instants for each fingerprint, and its container, which fits in 254 bytes.
-fn instant_frame(t: Turn, count: usize, mix: u8, line: &[u8], values: &[f32]) -> Turn
-    requires { t.sum < 4294967296 }
-    ensures { (result ≡ instant_frame count mix line.now values.now t) × (result.sum < 4294967296) }
-{
-    let s = t.session;
-    let ready = fields(s, 3, line);
-    let heard = instants::all_heard(ready, count, mix, values);
-    let mut out = [0u8; 254];
-    packed(heard, t.sum, line, &mut out)
+    let mut t = Turn { session: s, sum: 0 };
+    t.frame(load, even, block);
+    fill(&mut t.session, load, odd, block);
+    packed_again(&t.session, rounds)
 }
 
 // A sum over the containers of so many frames with instants for each fingerprint.
@@ -282,11 +275,10 @@ pub extern "C" fn bench_instants(
 ) -> u64
     ensures { result ≡ instant_sum_after rule mixes.now mix line.now values.now rounds }
 {
-    let begun = session::setup(3, 5, rule, mixes);
-    let s = begun.session;
+    let s = begin(3, 5, rule, mixes);
     let mut t = Turn { session: s, sum: 0 };
     for _i in 0..rounds {
-        t = instant_frame(t, mixes.len(), mix, line, values);
+        t.instant_frame(mixes.len(), mix, line, values);
     }
     t.sum
 }

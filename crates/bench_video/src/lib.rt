@@ -27,14 +27,17 @@ fn value(told: Told) -> u32
     }
 }
 
-// One line; a frame that is ready is handed out.
-fn step(a: After, format: u8, number: usize, line: &[u8]) -> After
-    ensures { result ≡ step_of a format number line.now }
-{
-    let lined = picture::line(a.picture, format, number, line);
-    After {
-        picture: picture::hand_out(lined.picture).picture,
-        sum: a.sum % 1000000 + value(lined.told),
+impl After {
+    // One line; a frame that is ready is handed out. A refusal tells nothing of a field.
+    fn step(&mut self, format: u8, number: usize, line: &[u8])
+        ensures { self.new ≡ step_of self.old format number line.now }
+    {
+        let told = self
+            .picture
+            .line(format, number, line)
+            .unwrap_or(Told::Open);
+        let _ = self.picture.hand_out();
+        self.sum = self.sum % 1000000 + value(told);
     }
 }
 
@@ -44,13 +47,13 @@ pub extern "C" fn bench_lines(format: u8, numbers: &[usize], lines: &[u8]) -> u3
     ensures { result ≡ (after_lines format numbers.now lines.now (length numbers.now)).sum }
 {
     let mut a = After {
-        picture: picture::fresh(),
+        picture: Picture::fresh(),
         sum: 0,
     };
     let half = lines.len() / 2;
     for (i, &number) in numbers.iter().enumerate() {
         let from = if i / 16 % 4 < 2 { 0 } else { half };
-        a = step(a, format, number, &lines[from..from + half]);
+        a.step(format, number, &lines[from..from + half]);
     }
     a.sum
 }

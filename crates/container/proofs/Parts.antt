@@ -18,7 +18,7 @@ use Rattle.rates.specs.Cadence.{count_occurs}
 use Rattle.container.specs.declared.IdPart.{IdPart}
 use Rattle.container.specs.declared.VideoPart.{VideoPart}
 use Rattle.container.specs.declared.PrintPart.{PrintPart}
-use Rattle.container.specs.declared.Reading.{Reading}
+use Rattle.container.specs.Reading.{Reading}
 use Rattle.container.specs.declared.AudioPart.{AudioPart}
 use Rattle.container.specs.Contents.{blank_print, blanks, same_count}
 use Rattle.container.specs.Parts.{with_part, id_part, one_field, both_fields, video_part, print_part, print_at, Run, then, run_of, audio_of, audio_part}

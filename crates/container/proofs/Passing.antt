@@ -15,7 +15,7 @@ use Rattle.container.specs.declared.IdPart.{IdPart}
 use Rattle.container.specs.declared.VideoPart.{VideoPart}
 use Rattle.container.specs.declared.PrintPart.{PrintPart}
 use Rattle.container.specs.declared.AudioPart.{AudioPart}
-use Rattle.container.specs.declared.Reading.{Reading}
+use Rattle.container.specs.Reading.{Reading}
 use Rattle.container.specs.Contents.{all_carry, same_count}
 use Rattle.container.specs.Parts.{print_part, print_at, Run, run_of, audio_of}
 use Rattle.container.specs.Passing.{is_alike}

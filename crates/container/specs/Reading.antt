@@ -1,12 +1,14 @@
 -- Read container (01, What a caller is told): the first refusal in the paper's order, or what the container says.
-use Rattle.std.specs.Prelude.{ℕ, ◌+◌, ◌-◌, ◌/◌, ◌%◌, List, Option, cond, length, get_or, take, drop, leb, ltb, eqb}
+use Rattle.std.specs.Prelude.{ℕ, ◌+◌, ◌-◌, ◌/◌, ◌%◌, List, Option, Result, Ok, Err, cond, length, get_or, take, drop, leb, ltb, eqb}
 use Rattle.laws.specs.Calls.{unless}
 use Rattle.laws.specs.Sums.{sum}
+use Rattle.laws.specs.declared.Refusal.{Refusal}
+use Rattle.laws.specs.Refusals.{number_of}
 use Rattle.rates.specs.Rates.{rate_listed}
 use Rattle.container.specs.declared.IdPart.{IdPart}
 use Rattle.container.specs.declared.VideoPart.{VideoPart}
 use Rattle.container.specs.declared.AudioPart.{AudioPart}
-use Rattle.container.specs.declared.Reading.{Reading}
+use Rattle.container.specs.declared.Contents.{Contents}
 use Rattle.container.specs.Contents.{empty_contents}
 use Rattle.container.specs.Parts.{with_part, id_part, video_part, audio_part}
 
@@ -21,9 +23,19 @@ header_number s =
     (unless (ltb (get_or s 3 0 % 16) 8) 24
     0)))))
 
+-- what a reading tells: 0 and what the container says, or the refusal's number
+pub record Reading : Type 0 where
+  pub number : ℕ
+  pub contents : Contents
+
 -- "a refused reading's contents are all zero, with no video"
 abbrev pub refusal : ℕ → Reading
 refusal n = record { number = n; contents = empty_contents }
+
+-- the same of an answer
+abbrev pub reading_of : Result Contents Refusal → Reading
+reading_of (Ok contents) = record { number = 0; contents = contents }
+reading_of (Err why) = refusal (number_of why)
 
 -- what the parts say, under the counter and the byte with the rate code and the flags
 abbrev pub parts_say : ℕ → ℕ → IdPart → VideoPart → AudioPart → Reading

@@ -2,12 +2,13 @@
 #![tactic(auto)]
 
 ghost use Rattle.std.specs.Prelude.{◌≡◌, ◌%◌, length};
+ghost use Rattle.laws.specs.Refusals.{number_in, done_of};
 ghost use Rattle.laws.specs.Sums.{sum};
 ghost use Rattle.container.specs.Contents.{blank_print, empty_contents, same_count};
-ghost use Rattle.container.specs.Reading.{reading};
+ghost use Rattle.container.specs.Reading.{reading, reading_of};
 ghost use Rattle.container.specs.Writing.{write_done, write_out};
 
-use laws::{Done, Video};
+use laws::{Refusal, Video};
 
 mod pass;
 mod read;
@@ -32,13 +33,6 @@ pub struct Contents {
     pub video: Video,
     pub count: u8,
     pub prints: [Print; 32],
-}
-
-// 0 and what the container says, or the refusal's number and all zero.
-#[derive(Clone, Copy)]
-pub struct Reading {
-    pub number: u8,
-    pub contents: Contents,
 }
 
 // A part that is right, as it is read: how many bytes it takes, and what it says.
@@ -113,51 +107,36 @@ fn same_count(prints: &[Print]) -> bool
 
 // Read container: 20 to 28.
 #[tactic(auto, unfolding(crate::specs::Reading::reading, crate::specs::Reading::middle))]
-pub fn read_container(bytes: &[u8]) -> Reading
-    ensures { result ≡ reading bytes.now }
+pub fn read_container(bytes: &[u8]) -> Result<Contents, Refusal>
+    ensures { reading_of result ≡ reading bytes.now }
 {
-    let number = read::header_number(bytes);
-    if number != 0 {
-        return read::refused(number);
-    }
+    read::check_header(bytes)?;
     let end = bytes.len() - 1;
     read::read_parts(bytes[1], bytes[3], &bytes[4..end])
 }
 
-// The number alone that Read container answers: 20 to 28, or 0.
+// What Read container refuses alone: 20 to 28.
 #[tactic(auto, unfolding(crate::specs::Reading::reading, crate::specs::Reading::middle))]
-pub fn container_number(bytes: &[u8]) -> u8
-    ensures { result ≡ (reading bytes.now).number }
+pub fn check_container(bytes: &[u8]) -> Result<(), Refusal>
+    ensures { number_in result ≡ (reading bytes.now).number }
 {
-    let number = read::header_number(bytes);
-    if number != 0 {
-        return number;
-    }
+    read::check_header(bytes)?;
     let end = bytes.len() - 1;
-    pass::parts_number(bytes[3], &bytes[4..end])
+    pass::check_parts(bytes[3], &bytes[4..end])
 }
 
 // Write: 29, 12.
-pub fn write_container(contents: Contents, out: &mut [u8]) -> Done
-    ensures { (result ≡ write_done contents (length out.old)) × (out.new ≡ write_out contents out.old) }
+pub fn write_container(contents: Contents, out: &mut [u8]) -> Result<usize, Refusal>
+    ensures { (done_of result ≡ write_done contents (length out.old)) × (out.new ≡ write_out contents out.old) }
 {
     if !valid::readable(contents) {
-        return Done {
-            number: 29,
-            written: 0,
-        };
+        return Err(Refusal::NoSuchContents);
     }
     let mut bytes = [0u8; 254];
     let size = write::encode(contents, &mut bytes);
     if out.len() < size {
-        return Done {
-            number: 12,
-            written: 0,
-        };
+        return Err(Refusal::NoRoom);
     }
     laws::copy_at(&bytes[..size], out, 0);
-    Done {
-        number: 0,
-        written: size,
-    }
+    Ok(size)
 }

@@ -1,11 +1,13 @@
 // Passing over the parts of a container: the number that a reading answers, with nothing made of what they say.
 ghost use Rattle.std.specs.Prelude.{◌≡◌, ◌≤◌};
 ghost use Rattle.std.specs.Option.{option_map};
+ghost use Rattle.laws.specs.Refusals.{number_in};
 ghost use Rattle.container.specs.Parts.{print_part, run_of, audio_of, audio_part};
 ghost use Rattle.container.specs.Passing.{is_alike};
 ghost use Rattle.container.specs.Reading.{parts_reading};
 
 use crate::read::{read_id, read_video};
+use laws::Refusal;
 
 // The bytes that a fingerprint at the start of b takes, where it is right.
 #[tactic(auto, unfolding(crate::specs::Parts::print_part, crate::specs::Parts::print_at))]
@@ -62,20 +64,24 @@ fn pass_audio(flag: u8, rate: u8, b: &[u8]) -> Option<usize>
     }
 }
 
-// The number of the parts, b, of a container whose fourth byte is flags: 25 to 28, or 0. It stands beside `read::read_parts` for speed: a packet whose container was
+// What the parts, b, of a container whose fourth byte is flags, are refused for: 25 to 28. It stands beside `read::read_parts` for speed: a packet whose container was
 // judged through that one, which makes all contents, took 1.7 times the plain program's time, where 1.2 is asked for (docs/PERFORMANCE.md, "Transport packets").
-pub(crate) fn parts_number(flags: u8, b: &[u8]) -> u8
-    ensures { result ≡ (parts_reading 0 flags b.now).number }
+pub(crate) fn check_parts(flags: u8, b: &[u8]) -> Result<(), Refusal>
+    ensures { number_in result ≡ (parts_reading 0 flags b.now).number }
 {
     let Some(i) = read_id(flags / 4 % 2, b) else {
-        return 25;
+        return Err(Refusal::IdPart);
     };
     let Some(v) = read_video(flags / 2 % 2, flags / 16, &b[i.used..]) else {
-        return 26;
+        return Err(Refusal::VideoPart);
     };
     let used = i.used + v.used;
     let Some(audio) = pass_audio(flags % 2, flags / 16, &b[used..]) else {
-        return 27;
+        return Err(Refusal::AudioPart);
     };
-    if used + audio == b.len() { 0 } else { 28 }
+    if used + audio == b.len() {
+        Ok(())
+    } else {
+        Err(Refusal::BytesLeftOver)
+    }
 }

@@ -1,36 +1,35 @@
 // Reading a container: the header's refusals, and the parts one after the other.
 ghost use Rattle.std.specs.Prelude.{◌≡◌, ◌≤◌, length};
+ghost use Rattle.laws.specs.Refusals.{number_in};
 ghost use Rattle.container.specs.Parts.{id_part, video_part, print_part, run_of, audio_of, audio_part};
-ghost use Rattle.container.specs.Reading.{header_number, refusal, parts_reading};
+ghost use Rattle.container.specs.Reading.{header_number, reading_of, parts_reading};
 
 use crate::pass::print_size;
-use crate::{
-    AudioPart, Contents, IdPart, Print, PrintPart, Reading, VideoPart, blank_print, empty_contents,
-};
-use laws::Video;
+use crate::{AudioPart, Contents, IdPart, Print, PrintPart, VideoPart, blank_print};
+use laws::{Refusal, Video};
 
-// The first of 20 to 24 that applies, or 0: then the bytes around the parts are there.
+// 20 to 24: else the bytes around the parts are there.
 #[tactic(auto, unfolding(crate::specs::Reading::header_number))]
-pub(crate) fn header_number(s: &[u8]) -> u8
-    ensures number { result ≡ header_number s.now }
-    ensures five { result ≡ 0 → 5 ≤ length s.now }
+pub(crate) fn check_header(s: &[u8]) -> Result<(), Refusal>
+    ensures number { number_in result ≡ header_number s.now }
+    ensures five { number_in result ≡ 0 → 5 ≤ length s.now }
 {
     if s.len() < 5 {
-        return 20;
+        return Err(Refusal::ContainerTooShort);
     }
     if s[0] != 0 {
-        return 21;
+        return Err(Refusal::Version);
     }
     if s.len() != usize::from(s[2]) + 3 {
-        return 22;
+        return Err(Refusal::Length);
     }
     if crate::byte_sum(s) != 0 {
-        return 23;
+        return Err(Refusal::Checksum);
     }
     if !rates::rate_listed(s[3] / 16) || 8 <= s[3] % 16 {
-        return 24;
+        return Err(Refusal::RateOrFlags);
     }
-    0
+    Ok(())
 }
 
 #[tactic(auto, unfolding(crate::specs::Parts::id_part))]
@@ -130,45 +129,33 @@ fn read_audio(flag: u8, rate: u8, b: &[u8]) -> Option<AudioPart>
     }
 }
 
-pub(crate) fn refused(number: u8) -> Reading
-    ensures { result ≡ refusal number }
-{
-    Reading {
-        number,
-        contents: empty_contents(),
-    }
-}
-
 // The parts, b, of a container whose fourth byte is flags.
-pub(crate) fn read_parts(counter: u8, flags: u8, b: &[u8]) -> Reading
-    ensures { result ≡ parts_reading counter flags b.now }
+pub(crate) fn read_parts(counter: u8, flags: u8, b: &[u8]) -> Result<Contents, Refusal>
+    ensures { reading_of result ≡ parts_reading counter flags b.now }
 {
     let Some(i) = read_id(flags / 4 % 2, b) else {
-        return refused(25);
+        return Err(Refusal::IdPart);
     };
     let Some(v) = read_video(flags / 2 % 2, flags / 16, &b[i.used..]) else {
-        return refused(26);
+        return Err(Refusal::VideoPart);
     };
     let used = i.used + v.used;
     let Some(a) = read_audio(flags % 2, flags / 16, &b[used..]) else {
-        return refused(27);
+        return Err(Refusal::AudioPart);
     };
     if used + a.used != b.len() {
-        return refused(28);
+        return Err(Refusal::BytesLeftOver);
     }
     // the toolchain takes an array out of a struct by a variable alone
     let id = i.id;
     let prints = a.prints;
-    Reading {
-        number: 0,
-        contents: Contents {
-            counter,
-            rate: flags / 16,
-            hasid: flags / 4 % 2 == 1,
-            id,
-            video: v.video,
-            count: a.count,
-            prints,
-        },
-    }
+    Ok(Contents {
+        counter,
+        rate: flags / 16,
+        hasid: flags / 4 % 2 == 1,
+        id,
+        video: v.video,
+        count: a.count,
+        prints,
+    })
 }

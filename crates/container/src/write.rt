@@ -98,7 +98,7 @@ fn video_flag(v: Video) -> u8
 fn audio_flag(n: u8) -> u8
     ensures { (result ≡ audio_flag n) × (result ≤ 1) }
 {
-    laws::flag(n != 0)
+    u8::from(n != 0)
 }
 
 #[tactic(auto, unfolding(crate::specs::Bytes::flag_byte))]
@@ -106,7 +106,7 @@ fn flag_byte(c: Contents) -> u8
     requires { Fits c }
     ensures { result ≡ flag_byte c }
 {
-    c.rate * 16 + laws::flag(c.hasid) * 4 + video_flag(c.video) * 2 + audio_flag(c.count)
+    c.rate * 16 + u8::from(c.hasid) * 4 + video_flag(c.video) * 2 + audio_flag(c.count)
 }
 
 // The parts first, from place 4 on, then the header that counts them, then the checksum.

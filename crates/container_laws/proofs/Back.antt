@@ -22,7 +22,7 @@ use Rattle.container.specs.declared.IdPart.{IdPart}
 use Rattle.container.specs.declared.VideoPart.{VideoPart}
 use Rattle.container.specs.declared.PrintPart.{PrintPart}
 use Rattle.container.specs.declared.AudioPart.{AudioPart}
-use Rattle.container.specs.declared.Reading.{Reading}
+use Rattle.container.specs.Reading.{Reading}
 use Rattle.container.specs.Contents.{blank_print}
 use Rattle.container.specs.Bytes.{id_bytes, video_bytes, print_bytes, run_bytes, audio_bytes, video_flag, audio_flag, part_bytes, flag_byte, front_bytes, check_byte, encode}
 use Rattle.container.specs.Parts.{with_part, id_part, one_field, both_fields, video_part, print_at, Run, run_of, audio_part}

@@ -13,7 +13,7 @@ use Rattle.laws.specs.Calls.{over, room_number, done_with}
 use Rattle.laws.proofs.Calls.{done, told_zero, handed}
 use Rattle.laws.proofs.Tests.{past}
 use Rattle.container.specs.declared.Contents.{Contents}
-use Rattle.container.specs.declared.Reading.{Reading}
+use Rattle.container.specs.Reading.{Reading}
 use Rattle.container.specs.Bytes.{encode}
 use Rattle.container.specs.Sizes.{Sized}
 use Rattle.container.specs.Reading.{reading}

@@ -9,7 +9,7 @@ use borrow.Author.Tests.{eq-eqb}
 use Rattle.laws.proofs.Tests.{held}
 use Rattle.laws.proofs.Bytes.{bytes_nil}
 use Rattle.container.specs.declared.Contents.{Contents}
-use Rattle.container.specs.declared.Reading.{Reading}
+use Rattle.container.specs.Reading.{Reading}
 use Rattle.container.specs.Contents.{blank_print}
 use Rattle.container.specs.Reading.{reading}
 use Rattle.demands.specs.Calls.{Setup, Call, pack, Answer, saying, Event}

@@ -25,7 +25,7 @@ use Rattle.fingerprint.specs.declared.Fingerprint.{Fingerprint}
 use Rattle.fingerprint.specs.State.{step_of, after, values_at, values_of, heard_of, instants, whole_instants, sound_number, instant_number}
 use Rattle.session.specs.declared.Settings.{Settings}
 use Rattle.session.specs.declared.Session.{Session}
-use Rattle.session.specs.declared.Sounded.{Sounded}
+use Rattle.session.specs.Session.{Sounded}
 use Rattle.session.specs.Session.{is_set, no_fingerprint, reached, heard_with, sounded_number, sound_of, instanted_number, instant_of}
 use Rattle.demands.specs.Calls.{Setup, sound, instant, saying, Event, begun, answer_of, after_call, Run}
 use Rattle.demands.specs.Paper.{accepted}

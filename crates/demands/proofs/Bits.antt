@@ -13,7 +13,7 @@ use Rattle.rates.specs.Rates.{interval_of}
 use Rattle.sound.specs.Exact.{exact_envelope, exact_mean, Near}
 use Rattle.fingerprint.proofs.Answers as answers
 use Rattle.container.specs.declared.Contents.{Contents}
-use Rattle.container.specs.declared.Reading.{Reading}
+use Rattle.container.specs.Reading.{Reading}
 use Rattle.container.specs.Contents.{blank_print}
 use Rattle.container_laws.specs.Typed.{Typed}
 use Rattle.container_laws.proofs.Container.{says, read_back}

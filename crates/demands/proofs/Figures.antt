@@ -20,7 +20,7 @@ use Rattle.sound.specs.Filter.{filter_next, filtered, envelope_after, mean_after
 use Rattle.laws.specs.declared.Video.{Video}
 use Rattle.laws.specs.declared.Video.TheVariants.{Absent, One}
 use Rattle.container.specs.declared.Print.{Print}
-use Rattle.container.specs.declared.Reading.{Reading}
+use Rattle.container.specs.Reading.{Reading}
 use Rattle.container.specs.Contents.{blank_print, all_carry, same_count}
 use Rattle.container.specs.Parts.{id_part, one_field, video_part, print_part, print_at, run_of, audio_of, audio_part}
 use Rattle.container.specs.Reading.{header_number, parts_reading, middle, reading}

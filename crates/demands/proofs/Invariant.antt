@@ -28,10 +28,10 @@ use Rattle.fingerprint.proofs.Answers.{sound_paper, instant_paper}
 use Rattle.container.specs.Writing.{write_number, write_done}
 use Rattle.session.specs.declared.Settings.{Settings}
 use Rattle.session.specs.declared.Session.{Session}
-use Rattle.session.specs.declared.Begun.{Begun}
-use Rattle.session.specs.declared.Lined.{Lined}
-use Rattle.session.specs.declared.Sounded.{Sounded}
-use Rattle.session.specs.declared.Packed.{Packed}
+use Rattle.session.specs.Session.{Begun}
+use Rattle.session.specs.Session.{Lined}
+use Rattle.session.specs.Session.{Sounded}
+use Rattle.session.specs.Packing.{Packed}
 use Rattle.session.specs.Fingerprints.{each, fresh_fingerprints, shed, prints_of}
 use Rattle.session.specs.Session.{is_set, no_fingerprint, reached, heard_with, line_of, sounded_number, sound_of, instanted_number, instant_of, video_restarted, audio_restarted, setup_number, set_up_with, setup_of}
 use Rattle.session.specs.Packing.{due_of, has_audio, spoken_of, contents_of, counter_after, place_from, session_after, pack_number, refused_with, packed_with, pack_of, pack_out, ready_number}

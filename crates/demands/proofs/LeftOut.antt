@@ -16,7 +16,7 @@ use Rattle.picture.proofs.Monitored.{not_first, not_five}
 use Rattle.picture.proofs.Answers.{unmonitored_same}
 use Rattle.session.specs.declared.Settings.{Settings}
 use Rattle.session.specs.declared.Session.{Session}
-use Rattle.session.specs.declared.Lined.{Lined}
+use Rattle.session.specs.Session.{Lined}
 use Rattle.session.specs.Session.{is_set, line_of, with_picture}
 use Rattle.demands.specs.Calls.{Setup, Call, line, sound, instant, pack, video_restart, audio_restart, Answer, saying, Event, calls, begun, after_call, Run, none, then}
 use Rattle.demands.specs.Paper.{lines, waiting, line_said, said, accepted, Program, transcript}

@@ -15,7 +15,7 @@ use Rattle.rates.specs.Cadence.{cadence}
 use Rattle.rates.proofs.Table.{place_after_lem}
 use Rattle.container.specs.declared.Print.{Print}
 use Rattle.container.specs.declared.Contents.{Contents}
-use Rattle.container.specs.declared.Reading.{Reading}
+use Rattle.container.specs.Reading.{Reading}
 use Rattle.container.specs.Reading.{reading}
 use Rattle.container_laws.specs.Typed.{Typed}
 use Rattle.container_laws.proofs.Container.{written_bytes}

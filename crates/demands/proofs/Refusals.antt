@@ -21,17 +21,17 @@ use Rattle.fingerprint.specs.State.{whole_instants, instants}
 use Rattle.fingerprint.specs.History.{kept_among}
 use Rattle.fingerprint.specs.Paper.{sound_answer, instant_answer}
 use Rattle.container.specs.declared.Contents.{Contents}
-use Rattle.container.specs.declared.Reading.{Reading}
+use Rattle.container.specs.Reading.{Reading}
 use Rattle.container.specs.Contents.{empty_contents}
 use Rattle.container.specs.Bytes.{encode}
 use Rattle.container.proofs.Parts.{part_cases}
 use Rattle.container.specs.Reading.{header_number, refusal, id_in, video_in, audio_in, parts_reading, middle, reading}
 use Rattle.container.specs.Writing.{write_number, write_done, write_out}
 use Rattle.session.specs.declared.Session.{Session}
-use Rattle.session.specs.declared.Begun.{Begun}
-use Rattle.session.specs.declared.Lined.{Lined}
-use Rattle.session.specs.declared.Sounded.{Sounded}
-use Rattle.session.specs.declared.Packed.{Packed}
+use Rattle.session.specs.Session.{Begun}
+use Rattle.session.specs.Session.{Lined}
+use Rattle.session.specs.Session.{Sounded}
+use Rattle.session.specs.Packing.{Packed}
 use Rattle.session.specs.Session.{is_set, with_picture, setup_number, empty_session, setup_of, line_of, sounded_number, sound_of, instanted_number, instant_of}
 use Rattle.session.specs.Packing.{contents_of, pack_number, refused_with, session_after, packed_with, pack_of, pack_out, ready_number}
 use Rattle.demands.specs.Calls.{Setup, Call, line, sound, instant, pack, video_restart, audio_restart, Answer, Event, begun, answer_of, after_call}

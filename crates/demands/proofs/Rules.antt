@@ -18,7 +18,7 @@ use Rattle.fingerprint.specs.Paper.{sound_answer, instant_answer, held_answer}
 use Rattle.fingerprint.proofs.Steps.{length_values}
 use Rattle.container.specs.declared.Print.{Print}
 use Rattle.container.specs.declared.Contents.{Contents}
-use Rattle.container.specs.declared.Reading.{Reading}
+use Rattle.container.specs.Reading.{Reading}
 use Rattle.container.specs.Contents.{blanks}
 use Rattle.container.specs.Bytes.{print_bytes, run_bytes, audio_bytes, encode}
 use Rattle.container.specs.Writing.{contents_number, write_number, write_done, write_out}

@@ -9,7 +9,7 @@ use borrow.Author.Tests.{eqb-false}
 use Rattle.laws.proofs.Tests.{chosen}
 use Rattle.rates.specs.Rates.{pairs_with}
 use Rattle.session.specs.declared.Session.{Session}
-use Rattle.session.specs.declared.Begun.{Begun}
+use Rattle.session.specs.Session.{Begun}
 use Rattle.session.specs.Fingerprints.{all_listed}
 use Rattle.session.specs.Session.{is_set, rule_listed, setup_number, set_up_with, empty_session, setup_of, line_of, sounded_number, sound_of, instanted_number, instant_of, video_restarted, audio_restarted}
 use Rattle.session.specs.Packing.{pack_number, pack_of, pack_out}

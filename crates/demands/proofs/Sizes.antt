@@ -15,7 +15,7 @@ use Rattle.container.specs.Writing.{write_number, write_done}
 use Rattle.container.proofs.Bytes as bytes
 use Rattle.container_laws.proofs.Container.{not_12}
 use Rattle.session.specs.declared.Session.{Session}
-use Rattle.session.specs.declared.Packed.{Packed}
+use Rattle.session.specs.Packing.{Packed}
 use Rattle.session.specs.Session.{is_set, set_up_with, empty_session}
 use Rattle.session.specs.Fingerprints.{all_hold, prints_of, with_blanks}
 use Rattle.session.specs.Packing.{has_audio, spoken_of, contents_of, pack_number, pack_of, ready_number}

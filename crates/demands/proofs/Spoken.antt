@@ -13,7 +13,7 @@ use Rattle.rates.proofs.Table.{occurs_1_to_5}
 use Rattle.container.specs.declared.Print.{Print}
 use Rattle.container.specs.declared.PrintPart.{PrintPart}
 use Rattle.container.specs.declared.AudioPart.{AudioPart}
-use Rattle.container.specs.declared.Reading.{Reading}
+use Rattle.container.specs.Reading.{Reading}
 use Rattle.container.specs.Contents.{blank_print}
 use Rattle.container.specs.Parts.{print_at, print_part, Run, run_of, audio_part}
 use Rattle.container.specs.Reading.{header_number, refusal, id_in, video_in, audio_in, middle, parts_reading, reading}

@@ -7,7 +7,7 @@ use mathlib.Core.List.{List, [], ◌∷◌}
 use native.Mathlib.Omega.{arith}
 use Rattle.laws.proofs.Bytes.{bytes_nil}
 use Rattle.container.specs.declared.Contents.{Contents}
-use Rattle.container.specs.declared.Reading.{Reading}
+use Rattle.container.specs.Reading.{Reading}
 use Rattle.container.specs.Reading.{reading}
 use Rattle.demands.specs.Calls.{Setup, line, pack, Answer}
 use Rattle.demands.specs.Paper.{accepted, Program, transcript}

@@ -6,7 +6,7 @@ use Rattle.rates.specs.Rates.{interval_of}
 use Rattle.fingerprint.specs.Paper.{AllRight}
 use Rattle.container.specs.declared.Print.{Print}
 use Rattle.container.specs.declared.Contents.{Contents}
-use Rattle.container.specs.declared.Reading.{Reading}
+use Rattle.container.specs.Reading.{Reading}
 use Rattle.container.specs.Contents.{blank_print}
 use Rattle.container.specs.Reading.{reading}
 use Rattle.session.specs.declared.Session.{Session}

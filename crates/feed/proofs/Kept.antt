@@ -25,9 +25,8 @@ use Rattle.mending.specs.Mending.{mended, recording_number, mend_number, mend_do
 use Rattle.container.specs.Writing.{write_done, write_out}
 use Rattle.floats.specs.declared.Instant as floats
 use Rattle.session.specs.declared.Session.{Session}
-use Rattle.session.specs.declared.Packed.{Packed}
 use Rattle.session.specs.Session.{instant_of}
-use Rattle.session.specs.Packing.{pack_number, contents_of, session_after, refused_with, packed_with, pack_of, pack_out}
+use Rattle.session.specs.Packing.{Packed, pack_number, contents_of, session_after, refused_with, packed_with, pack_of, pack_out}
 use Rattle.flat.specs.Unflat.{unflat}
 use Rattle.report.specs.Report.{reported}
 use Rattle.report.proofs.Sizes.{reported_size}

@@ -1,28 +1,22 @@
 -- What a call answers and leaves, carried on: the laws that the calls share.
-use Prim.Native.Nat.{ℕ, ◌≤◌, ◌<◌}
-use mathlib.Core.Path.{◌≡◌, sym, ap, subst, ◌∙◌}
+use Prim.Native.Nat.{ℕ}
+use mathlib.Core.Path.{◌≡◌, ap, subst, ◌∙◌}
 use mathlib.Core.List.{List, ◌++◌}
-use mathlib.Core.Bool.{cond}
 use lib.ListN.{length, drop}
-use lib.Dec.{leb}
-use borrow.Author.Tests.{le-leb, lt-leb}
-use Rattle.std.specs.declared.result.Result.TheVariants.{Ok, Err}
+use Rattle.std.specs.declared.result.Result.TheVariants.{Ok}
 use Rattle.laws.specs.declared.Done.{Done}
 use Rattle.laws.specs.Calls.{over}
 use Rattle.records.specs.Records.{byte_at}
 use Rattle.sampling.specs.Samples.{sample_done, sample_out}
 use Rattle.session.specs.declared.Session.{Session}
-use Rattle.session.specs.declared.Packed.{Packed}
-use Rattle.session.specs.Packing.{pack_of, pack_out}
-use Rattle.answers.specs.declared.Cause.{Cause}
+use Rattle.session.specs.Packing.{Packed, pack_of, pack_out}
 use Rattle.answers.specs.declared.Hand.TheVariants.{Sample}
 use Rattle.answers.specs.declared.Answer.{Answer}
-use Rattle.answers.specs.declared.Answer.TheVariants.{Handed, Bad}
+use Rattle.answers.specs.declared.Answer.TheVariants.{Handed}
 use Rattle.answers.specs.Lines.{untouched, fresh}
 use Rattle.answers.specs.Rooms.{room_at}
-use Rattle.feed.specs.Alone.{Reply, reply, in_work, sample_lent, sample_in, sample_fed, lent_fed, room_in, room_fed}
+use Rattle.feed.specs.Alone.{Reply, in_work, sample_lent, sample_in, sample_fed, lent_fed, room_in, room_fed}
 use Rattle.feed.specs.Calls.{Answered, Step, packed, pack_in, pack_fed}
-use Rattle.answers.specs.Steps.{step, bad_fed}
 use Rattle.answers.proofs.Watch.{untouched_size}
 use Rattle.answers.proofs.Rooms.{work_after}
 use Rattle.feed.proofs.Kept.{sample_kept, pack_kept, lent_in}
@@ -36,30 +30,7 @@ Does t a w = (a ≡ t.answered) × (w ≡ t.left)
 pub gives_as : (t u : Reply) (a : Answer) (w : List ℕ) → t ≡ u → Gives t a w → Gives u a w
 gives_as t u a w e p = subst (λ (x : Reply). Gives x a w) e p
 
-pub does_as : (t u : Step) (a : Answered) (w : List ℕ) → t ≡ u → Does t a w → Does u a w
-does_as t u a w e p = subst (λ (x : Step). Does x a w) e p
-
--- a payload that is long enough for its fixed part, and one that is not
-pub when_enough : {A : Type 0} (n size : ℕ) (t u : A) → n ≤ size → t ≡ cond (leb n size) t u
-when_enough n size t u h = rw (le-leb n size h)
-
-pub when_short : {A : Type 0} (n size : ℕ) (t u : A) → size < n → u ≡ cond (leb n size) t u
-when_short n size t u h = rw (lt-leb n size h)
-
--- ---- a record with a room: it has none, or the call was lent it
-
-module _ (p : List ℕ) (cause : Cause) where
-  pub sample_none : room_at p 1 ≡ Err cause → reply (Bad cause) fresh ≡ sample_fed p
-  unfolding sample_fed sample_in
-  sample_none e = sym (ap (sample_in p) e)
-
-  pub room_none : (tag : ℕ) → room_at p 0 ≡ Err cause → reply (Bad cause) fresh ≡ room_fed tag p
-  unfolding room_fed room_in
-  room_none tag e = sym (ap (room_in tag p) e)
-
-  pub pack_none : (s : Session) → room_at p 0 ≡ Err cause → step (bad_fed s cause) fresh ≡ pack_fed s p
-  unfolding pack_fed pack_in
-  pack_none s e = sym (ap (pack_in s p) e)
+-- ---- a record with a room, and the call that was lent it
 
 module _ (p rest lent left work : List ℕ) (room : ℕ) (l : lent ≡ untouched room) (w : work ≡ fresh) where
   pub samples : (d : Done) → room_at p 1 ≡ Ok room → rest ≡ drop 3 p → d ≡ sample_done (byte_at p 0) rest lent → left ≡ sample_out (byte_at p 0) rest lent

@@ -5,12 +5,8 @@ use Rattle.laws.specs.Calls.{over}
 use Rattle.records.specs.Records.{byte_at, pair_at}
 use Rattle.floats.specs.declared.Instant as floats
 use Rattle.session.specs.declared.Session.{Session}
-use Rattle.session.specs.declared.Begun.{Begun}
-use Rattle.session.specs.declared.Lined.{Lined}
-use Rattle.session.specs.declared.Sounded.{Sounded}
-use Rattle.session.specs.declared.Packed.{Packed}
-use Rattle.session.specs.Session.{setup_of, line_of, sound_of, instant_of, video_restarted, audio_restarted}
-use Rattle.session.specs.Packing.{pack_of, pack_out}
+use Rattle.session.specs.Session.{Begun, Lined, Sounded, setup_of, line_of, sound_of, instant_of, video_restarted, audio_restarted}
+use Rattle.session.specs.Packing.{Packed, pack_of, pack_out}
 use Rattle.answers.specs.declared.Cause.{Cause}
 use Rattle.answers.specs.declared.Cause.TheVariants.{UnknownTag, TooShort, TooLong}
 use Rattle.answers.specs.declared.Hand.TheVariants.{Pack}

@@ -1,156 +1,142 @@
 // The calls on a session: tags 10h to 17h.
 ghost use Rattle.std.specs.Prelude.{◌≡◌};
+ghost use Rattle.laws.specs.Refusals.{number_in};
+ghost use Rattle.session.specs.Session.{setup_of, video_restarted, audio_restarted};
+ghost use Rattle.answers.specs.declared.Answer.TheVariants.{VideoRestart, AudioRestart};
 ghost use Rattle.answers.specs.Lines.{fresh};
-ghost use Rattle.session.specs.Session.{setup_of};
-ghost use Rattle.answers.specs.Steps.{bad_fed};
+ghost use Rattle.answers.specs.Steps.{answers};
 ghost use Rattle.feed.specs.Calls.{begun, setup_fed, ruled_fed, line_fed, sound_fed, pack_fed, restart_fed, instant_fed, session_fed};
 
 use crate::values::instant_in;
-use answers::{Answer, Answered, Cause, Hand};
-use laws::Done;
+use answers::{Answer, Cause, Hand};
+use laws::{Done, Refusal};
+use picture::Told;
 use session::Session;
 
-// The same in receive_feed: a generic one would be a public function of answers, and the roll of uniqueness theorems (tools/promises) has none with a type parameter.
-pub(crate) fn bad(s: Session, cause: Cause) -> Answered<Session>
-    ensures { result ≡ bad_fed s cause }
+// A call that hands out nothing is told by its number alone.
+fn number_in(answer: Result<(), Refusal>) -> u8
+    ensures { result ≡ number_in answer }
 {
-    Answered {
-        answer: Answer::Bad(cause),
-        after: s,
+    match answer {
+        Ok(()) => 0,
+        Err(why) => why.number(),
     }
 }
 
-fn begin(format: u8, rate: u8, rule: u8, mixes: &[u8]) -> Answered<Session>
-    ensures { result ≡ begun (setup_of format rate rule mixes.now) }
+// A refused setup gives an empty session.
+#[tactic(auto, unfolding(crate::specs::Calls::begun))]
+fn begin(s: &mut Session, format: u8, rate: u8, rule: u8, mixes: &[u8]) -> Answer
+    ensures { answers result s.new ≡ begun (setup_of format rate rule mixes.now) }
 {
-    let b = session::setup(format, rate, rule, mixes);
-    Answered {
-        answer: Answer::Setup(b.number),
-        after: b.session,
-    }
+    Answer::Setup(number_in(s.setup(format, rate, rule, mixes)))
 }
 
 // Setup by rule 1.
-fn setup(s: Session, payload: &[u8]) -> Answered<Session>
-    ensures { result ≡ setup_fed s payload.now }
+#[tactic(auto, using(laws::proofs::Lists::tail_part), unfolding(crate::specs::Calls::setup_fed, records::specs::Records::byte_at))]
+fn setup(s: &mut Session, payload: &[u8]) -> Answer
+    ensures { answers result s.new ≡ setup_fed s.old payload.now }
 {
     if payload.len() < 2 {
-        return bad(s, Cause::TooShort);
+        return Answer::Bad(Cause::TooShort);
     }
-    begin(payload[0], payload[1], 1, &payload[2..])
+    begin(s, payload[0], payload[1], 1, &payload[2..])
 }
 
 // Setup by the rule that the record names.
-fn ruled(s: Session, payload: &[u8]) -> Answered<Session>
-    ensures { result ≡ ruled_fed s payload.now }
+#[tactic(auto, using(laws::proofs::Lists::tail_part), unfolding(crate::specs::Calls::ruled_fed, records::specs::Records::byte_at))]
+fn ruled(s: &mut Session, payload: &[u8]) -> Answer
+    ensures { answers result s.new ≡ ruled_fed s.old payload.now }
 {
     if payload.len() < 3 {
-        return bad(s, Cause::TooShort);
+        return Answer::Bad(Cause::TooShort);
     }
-    begin(payload[0], payload[1], payload[2], &payload[3..])
+    begin(s, payload[0], payload[1], payload[2], &payload[3..])
 }
 
-fn line(s: Session, payload: &[u8]) -> Answered<Session>
-    ensures { result ≡ line_fed s payload.now }
+#[tactic(auto, using(laws::proofs::Lists::tail_part), unfolding(crate::specs::Calls::line_fed, crate::specs::Calls::lined))]
+fn line(s: &mut Session, payload: &[u8]) -> Answer
+    ensures { answers result s.new ≡ line_fed s.old payload.now }
 {
     if payload.len() < 2 {
-        return bad(s, Cause::TooShort);
+        return Answer::Bad(Cause::TooShort);
     }
-    let l = session::line(s, records::pair_at(payload, 0), &payload[2..]);
-    Answered {
-        answer: Answer::Line(l.number, l.told),
-        after: l.session,
+    match s.line(records::pair_at(payload, 0), &payload[2..]) {
+        Ok(told) => Answer::Line(0, told),
+        Err(why) => Answer::Line(why.number(), Told::Open),
     }
 }
 
-fn sound(s: Session, payload: &[u8]) -> Answered<Session>
-    ensures { result ≡ sound_fed s payload.now }
+#[tactic(auto, using(laws::proofs::Lists::tail_part), unfolding(crate::specs::Calls::sound_fed, crate::specs::Calls::sounded, records::specs::Records::byte_at))]
+fn sound(s: &mut Session, payload: &[u8]) -> Answer
+    ensures { answers result s.new ≡ sound_fed s.old payload.now }
 {
     if payload.len() < 1 {
-        return bad(s, Cause::TooShort);
+        return Answer::Bad(Cause::TooShort);
     }
-    let h = session::sound(s, payload[0] as usize, &payload[1..]);
-    Answered {
-        answer: Answer::Sound(h.number),
-        after: h.session,
-    }
+    Answer::Sound(number_in(s.sound(payload[0] as usize, &payload[1..])))
 }
 
-fn pack(s: Session, payload: &[u8], work: &mut [u8]) -> Answered<Session>
+#[tactic(auto, unfolding(crate::specs::Calls::pack_fed, crate::specs::Calls::pack_in))]
+fn pack(s: &mut Session, payload: &[u8], work: &mut [u8]) -> Answer
     requires { work.old ≡ fresh }
-    ensures { (result ≡ (pack_fed s payload.now).answered) × (work.new ≡ (pack_fed s payload.now).left) }
+    ensures { (answers result s.new ≡ (pack_fed s.old payload.now).answered) × (work.new ≡ (pack_fed s.old payload.now).left) }
 {
     match answers::asks::room_at(payload, 0) {
-        Err(cause) => bad(s, cause),
+        Err(cause) => Answer::Bad(cause),
         Ok(room) => {
-            let p = session::pack(s, &payload[2..], &mut work[..room]);
-            let done = Done {
-                number: p.number,
-                written: p.written,
-            };
-            Answered {
-                answer: Answer::Handed(Hand::Pack, done),
-                after: p.session,
-            }
+            let packed = s.pack(&payload[2..], &mut work[..room]);
+            Answer::Handed(Hand::Pack, Done::from(packed))
         }
     }
 }
 
-// A restart has no payload.
-fn restart(s: Session, next: Session, answer: Answer, payload: &[u8]) -> Answered<Session>
-    ensures { result ≡ restart_fed s next answer payload.now }
+// A restart has no payload. Two functions, for the session's two methods: one that took the method as a closure would need a clause that says what the closure does.
+#[tactic(auto, unfolding(crate::specs::Calls::restart_fed))]
+fn video_restart(s: &mut Session, payload: &[u8]) -> Answer
+    ensures { answers result s.new ≡ restart_fed s.old (video_restarted s.old) VideoRestart payload.now }
 {
     if payload.len() != 0 {
-        return bad(s, Cause::TooLong);
+        return Answer::Bad(Cause::TooLong);
     }
-    Answered {
-        answer,
-        after: next,
-    }
+    s.video_restart();
+    Answer::VideoRestart
 }
 
-fn instant(s: Session, payload: &[u8]) -> Answered<Session>
-    ensures { result ≡ instant_fed s payload.now }
+#[tactic(auto, unfolding(crate::specs::Calls::restart_fed))]
+fn audio_restart(s: &mut Session, payload: &[u8]) -> Answer
+    ensures { answers result s.new ≡ restart_fed s.old (audio_restarted s.old) AudioRestart payload.now }
+{
+    if payload.len() != 0 {
+        return Answer::Bad(Cause::TooLong);
+    }
+    s.audio_restart();
+    Answer::AudioRestart
+}
+
+#[tactic(auto, unfolding(crate::specs::Calls::instant_fed, crate::specs::Calls::instant_with, crate::specs::Calls::instanted, records::specs::Records::byte_at))]
+fn instant(s: &mut Session, payload: &[u8]) -> Answer
+    ensures { answers result s.new ≡ instant_fed s.old payload.now }
 {
     match instant_in(payload) {
-        Err(cause) => bad(s, cause),
-        Ok(i) => {
-            let h = session::instant(s, payload[0] as usize, i);
-            Answered {
-                answer: Answer::Instant(h.number),
-                after: h.session,
-            }
-        }
+        Err(cause) => Answer::Bad(cause),
+        Ok(i) => Answer::Instant(number_in(s.instant(payload[0] as usize, i))),
     }
 }
 
-pub(crate) fn on_session(s: Session, tag: u8, payload: &[u8], work: &mut [u8]) -> Answered<Session>
+#[tactic(auto, unfolding(crate::specs::Calls::session_fed))]
+pub(crate) fn on_session(s: &mut Session, tag: u8, payload: &[u8], work: &mut [u8]) -> Answer
     requires { work.old ≡ fresh }
-    ensures { (result ≡ (session_fed s tag payload.now).answered) × (work.new ≡ (session_fed s tag payload.now).left) }
+    ensures { (answers result s.new ≡ (session_fed s.old tag payload.now).answered) × (work.new ≡ (session_fed s.old tag payload.now).left) }
 {
-    if tag == 0x10 {
-        return setup(s, payload);
+    match tag {
+        0x10 => setup(s, payload),
+        0x11 => line(s, payload),
+        0x12 => sound(s, payload),
+        0x13 => pack(s, payload, work),
+        0x14 => video_restart(s, payload),
+        0x15 => audio_restart(s, payload),
+        0x16 => instant(s, payload),
+        0x17 => ruled(s, payload),
+        _ => Answer::Bad(Cause::UnknownTag(tag)),
     }
-    if tag == 0x11 {
-        return line(s, payload);
-    }
-    if tag == 0x12 {
-        return sound(s, payload);
-    }
-    if tag == 0x13 {
-        return pack(s, payload, work);
-    }
-    if tag == 0x14 {
-        return restart(s, session::video_restart(s), Answer::VideoRestart, payload);
-    }
-    if tag == 0x15 {
-        return restart(s, session::audio_restart(s), Answer::AudioRestart, payload);
-    }
-    if tag == 0x16 {
-        return instant(s, payload);
-    }
-    if tag == 0x17 {
-        return ruled(s, payload);
-    }
-    bad(s, Cause::UnknownTag(tag))
 }

@@ -8,17 +8,21 @@ use answers::Cause;
 use floats::{Five, Instant};
 
 // The 32 bits in four bytes, the low byte first.
+#[tactic(auto, unfolding(crate::specs::Values::bits_at, records::specs::Records::byte_at))]
 fn bits_at(payload: &[u8], at: usize) -> u32
     requires { at + 4 ≤ length payload.now }
     ensures { result ≡ bits_at payload.now at }
 {
-    payload[at] as u32
-        + 256 * (payload[at + 1] as u32)
-        + 65536 * (payload[at + 2] as u32)
-        + 16777216 * (payload[at + 3] as u32)
+    u32::from_le_bytes([
+        payload[at],
+        payload[at + 1],
+        payload[at + 2],
+        payload[at + 3],
+    ])
 }
 
 // The value in four bytes. from_bits is undefined at a NaN's bits: exponent all ones and digits not 0, above those of an infinity.
+#[tactic(auto, unfolding(crate::specs::Values::float_at))]
 fn float_at(payload: &[u8], at: usize) -> f32
     requires { at + 4 ≤ length payload.now }
     ensures { result ≡ float_at payload.now at }
@@ -31,6 +35,7 @@ fn float_at(payload: &[u8], at: usize) -> f32
 }
 
 // The instant of a payload that has a kind and its values.
+#[tactic(auto, unfolding(crate::specs::Values::instant_at, crate::specs::Values::instant_size, records::specs::Records::byte_at))]
 fn instant_at(payload: &[u8]) -> Instant
     requires listed { mix_listed (byte_at payload.now 1) ≡ true }
     requires whole { length payload.now ≡ instant_size (byte_at payload.now 1) }
@@ -53,6 +58,7 @@ fn instant_at(payload: &[u8]) -> Instant
 }
 
 // The instant that a record brings, or why it brings none.
+#[tactic(auto, unfolding(crate::specs::Values::instant_in, crate::specs::Values::instant_size, records::specs::Records::byte_at))]
 pub(crate) fn instant_in(payload: &[u8]) -> Result<Instant, Cause>
     ensures { result ≡ instant_in payload.now }
 {

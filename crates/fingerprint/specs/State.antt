@@ -6,7 +6,6 @@ use Rattle.sound.specs.Filter.{envelope_next, mean_next}
 use Rattle.floats.specs.declared.Instant.{Instant}
 use Rattle.floats.specs.Instants.{refused_by}
 use Rattle.fingerprint.specs.declared.Fingerprint.{Fingerprint}
-use Rattle.fingerprint.specs.declared.Taken.{Taken}
 
 -- as setup or an audio restart leaves it
 unfoldable pub fresh_of : ℕ → Fingerprint
@@ -111,6 +110,14 @@ can_take f n = leb n 5 && holds_of f n
 -- "bits that have been packed free their room"
 unfoldable pub without : Fingerprint → ℕ → Fingerprint
 without f n = holding f (f.held - 8 * n) (shifted n f.bytes)
+
+-- what taking bytes gives: the fingerprint afterwards, and the bytes handed out, with zeros behind them
+pub record Taken : Type 0 where
+  pub fingerprint : Fingerprint
+  pub bytes : List ℕ
+
+abbrev pub taken : List ℕ → Fingerprint → Taken
+taken bytes f = record { fingerprint = f; bytes = bytes }
 
 unfoldable pub take_of : Fingerprint → ℕ → Taken
 take_of f n =

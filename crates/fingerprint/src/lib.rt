@@ -1,14 +1,16 @@
-// One audio fingerprint by value: what it has heard, the bits that it holds, and the taking of them (01, Audio; 000, 5.3.3 to 5.3.6). The mixing rule is its
+// One audio fingerprint: what it has heard, the bits that it holds, and the taking of them (01, Audio; 000, 5.3.3 to 5.3.6). The mixing rule is its
 // session's, and is given with the sound.
 #![tactic(auto)]
 
 ghost use Rattle.std.specs.Prelude.{◌≡◌, ◌+◌, ◌-◌, ◌*◌, ◌%◌, ◌≤◌, ◌<◌, ltb, length};
 ghost use Rattle.sound.specs.Mix.{instant_bytes};
 ghost use Rattle.floats.specs.Instants.{float_value};
-ghost use Rattle.fingerprint.specs.State.{fresh_of, pushed_of, step_of, heard_of, values_at, instants, whole_instants, new_bits, store_number, sound_number, instant_number, holds_of, shifted, first_bytes, take_of};
+ghost use Rattle.laws.specs.Refusals.{number_in};
+ghost use Rattle.fingerprint.specs.State.{fresh_of, pushed_of, step_of, heard_of, values_at, instants, whole_instants, new_bits, store_number, sound_number, instant_number, holds_of, shifted, first_bytes, taken, take_of};
 ghost use Rattle.fingerprint.specs.Parts.{filters_of, next_filters, through_of, with_filters_of};
 
 use floats::Instant;
+use laws::Refusal;
 
 // envelope and mean are E(i) and M(i) of the newest sample i; started says that there was one. wait samples pass before the next kept one.
 // held bits are not yet taken; bit k of them is bit k % 8 of byte k / 8.
@@ -23,49 +25,12 @@ pub struct Fingerprint {
     bytes: [u8; 32],
 }
 
-// The fingerprint afterwards, and the bytes handed out, with zeros behind them.
-#[derive(Clone, Copy)]
-pub struct Taken {
-    pub fingerprint: Fingerprint,
-    pub bytes: [u8; 5],
-}
-
 // What every sample changes. The rest of a fingerprint changes only where a bit is kept, and need not be carried from sample to sample.
 #[derive(Clone, Copy)]
 struct Filters {
     envelope: u32,
     mean: u32,
     started: bool,
-}
-
-// A fingerprint as setup or an audio restart leaves it.
-#[tactic(auto, unfolding(crate::specs::State::fresh_of))]
-pub fn fresh(mix: u8) -> Fingerprint
-    ensures { result ≡ fresh_of mix }
-{
-    Fingerprint {
-        mix,
-        envelope: 0,
-        mean: 0,
-        wait: 0,
-        started: false,
-        held: 0,
-        bytes: [0; 32],
-    }
-}
-
-// An audio restart clears a fingerprint; its mix type stays.
-pub fn restart(f: Fingerprint) -> Fingerprint
-    ensures { result ≡ fresh_of f.mix }
-{
-    fresh(f.mix)
-}
-
-// The fields are this crate's own, so that a fingerprint comes only from these functions; a container tells the mix type.
-pub fn mix_type(f: Fingerprint) -> u8
-    ensures { result ≡ f.mix }
-{
-    f.mix
 }
 
 // The filters of a fingerprint. They are fields of it, and no field of its own, since `demands.proofs.Demand3.stored` and `History.Holds` speak of its
@@ -150,18 +115,6 @@ fn less_one(d: u8) -> u8
     d.saturating_sub(1)
 }
 
-// One mixed sample: both filters, and its bit where no sample is waited for.
-pub fn step(f: Fingerprint, a: u16, d: u8) -> Fingerprint
-    ensures { result ≡ step_of d f a }
-{
-    let v = next_filters(filters_of(f), a);
-    if f.wait == 0 {
-        with_filters(kept(f, v), v, less_one(d))
-    } else {
-        with_filters(f, v, f.wait - 1)
-    }
-}
-
 // The instants in len bytes.
 fn instants_in(mix: u8, len: usize) -> usize
     ensures { result ≡ instants mix len }
@@ -209,8 +162,8 @@ fn least(wait: u8, left: usize) -> u8
     }
 }
 
-// A block of sound: each of its instants in turn, a kept one by itself and those that pass in one run.
-pub fn heard(f: Fingerprint, rule: u8, d: u8, block: &[u8]) -> Fingerprint
+// The fingerprint after a block.
+fn heard(f: Fingerprint, rule: u8, d: u8, block: &[u8]) -> Fingerprint
     ensures { result ≡ heard_of rule d f block.now }
 {
     let mix = f.mix;
@@ -255,13 +208,13 @@ fn new_bits(d: u8, wait: u8, n: usize) -> usize
 }
 
 // 9 where the bits held and those of the next n samples are above 256.
-fn store_number(held: usize, d: u8, wait: u8, n: usize) -> u8
-    ensures { result ≡ store_number held d wait n }
+fn check_store(held: usize, d: u8, wait: u8, n: usize) -> Result<(), Refusal>
+    ensures { number_in result ≡ store_number held d wait n }
 {
     if 256 < held || 256 - held < new_bits(d, wait, n) {
-        9
+        Err(Refusal::StoreFull)
     } else {
-        0
+        Ok(())
     }
 }
 
@@ -271,40 +224,6 @@ fn whole_instants(mix: u8, len: usize) -> bool
 {
     let size = sound::instant_bytes(mix);
     if size == 0 { len == 0 } else { len % size == 0 }
-}
-
-// The number that refuses a block of len bytes, or 0 (01, "What a caller is told", Sound; its 7 is the session's).
-pub fn sound_number(f: Fingerprint, d: u8, len: usize) -> u8
-    ensures { result ≡ sound_number d f len }
-{
-    if !whole_instants(f.mix, len) {
-        return 8;
-    }
-    store_number(f.held, d, f.wait, instants_in(f.mix, len))
-}
-
-// The number that refuses an instant in floating point, or 0 (02, A3; its 1 and 7 are the session's).
-pub fn instant_number(f: Fingerprint, d: u8, i: Instant) -> u8
-    ensures { result ≡ instant_number d f i }
-{
-    if floats::has_nan(i) || floats::kind(i) != f.mix {
-        return 14;
-    }
-    store_number(f.held, d, f.wait, 1)
-}
-
-// An instant in floating point: its one mixed sample.
-pub fn heard_instant(f: Fingerprint, rule: u8, d: u8, i: Instant) -> Fingerprint
-    ensures { result ≡ step_of d f (float_value rule i) }
-{
-    step(f, floats::value(rule, i), d)
-}
-
-// Whether n whole bytes are held.
-pub fn holds(f: Fingerprint, n: usize) -> bool
-    ensures { result ≡ holds_of f n }
-{
-    n <= f.held / 8
 }
 
 // The bytes after the first n, then zeros.
@@ -327,24 +246,103 @@ fn first_bytes(old: [u8; 32], n: usize) -> [u8; 5]
     out
 }
 
-// The n oldest whole bytes leave, and their room is free. Where they are not held, or n is above 5, nothing changes.
-pub fn take(f: Fingerprint, n: usize) -> Taken
-    ensures { result ≡ take_of f n }
-{
-    if 5 < n || f.held < 8 * n {
-        return Taken {
-            fingerprint: f,
-            bytes: [0; 5],
+impl Fingerprint {
+    // A fingerprint as setup or an audio restart leaves it.
+    #[tactic(auto, unfolding(crate::specs::State::fresh_of))]
+    pub fn fresh(mix: u8) -> Fingerprint
+        ensures { result ≡ fresh_of mix }
+    {
+        Fingerprint {
+            mix,
+            envelope: 0,
+            mean: 0,
+            wait: 0,
+            started: false,
+            held: 0,
+            bytes: [0; 32],
+        }
+    }
+
+    // An audio restart clears a fingerprint; its mix type stays.
+    pub fn restart(&mut self)
+        ensures { self.new ≡ fresh_of self.old.mix }
+    {
+        *self = Fingerprint::fresh(self.mix);
+    }
+
+    // The fields are this crate's own, so that a fingerprint comes only from these functions; a container tells the mix type.
+    pub fn mix_type(&self) -> u8
+        ensures { result ≡ self.now.mix }
+    {
+        self.mix
+    }
+
+    // One mixed sample: both filters, and its bit where no sample is waited for.
+    pub fn step(&mut self, a: u16, d: u8)
+        ensures { self.new ≡ step_of d self.old a }
+    {
+        let v = next_filters(filters_of(*self), a);
+        *self = if self.wait == 0 {
+            with_filters(kept(*self, v), v, less_one(d))
+        } else {
+            with_filters(*self, v, self.wait - 1)
         };
     }
-    let bytes = shift(f.bytes, n);
-    let out = first_bytes(f.bytes, n);
-    Taken {
-        fingerprint: Fingerprint {
-            bytes,
-            held: f.held - 8 * n,
-            ..f
-        },
-        bytes: out,
+
+    // A block of sound: each of its instants in turn, a kept one by itself and those that pass in one run. It is worked out beside the fingerprint, of which a
+    // sample that passes changes the filters alone.
+    pub fn hear(&mut self, rule: u8, d: u8, block: &[u8])
+        ensures { self.new ≡ heard_of rule d self.old block.now }
+    {
+        let f = *self;
+        *self = heard(f, rule, d, block);
+    }
+
+    // An instant in floating point: its one mixed sample.
+    pub fn hear_instant(&mut self, rule: u8, d: u8, i: Instant)
+        ensures { self.new ≡ step_of d self.old (float_value rule i) }
+    {
+        self.step(floats::value(rule, i), d);
+    }
+
+    // What refuses a block of len bytes: 8, then 9 (01, "What a caller is told", Sound; its 7 is the session's).
+    pub fn check_sound(&self, d: u8, len: usize) -> Result<(), Refusal>
+        ensures { number_in result ≡ sound_number d self.now len }
+    {
+        if !whole_instants(self.mix, len) {
+            return Err(Refusal::NotWholeInstants);
+        }
+        check_store(self.held, d, self.wait, instants_in(self.mix, len))
+    }
+
+    // What refuses an instant in floating point: 14, then 9 (02, A3; its 1 and 7 are the session's).
+    pub fn check_instant(&self, d: u8, i: Instant) -> Result<(), Refusal>
+        ensures { number_in result ≡ instant_number d self.now i }
+    {
+        if floats::has_nan(i) || floats::kind(i) != self.mix {
+            return Err(Refusal::OtherInstant);
+        }
+        check_store(self.held, d, self.wait, 1)
+    }
+
+    // Whether n whole bytes are held.
+    pub fn holds(&self, n: usize) -> bool
+        ensures { result ≡ holds_of self.now n }
+    {
+        n <= self.held / 8
+    }
+
+    // The n oldest whole bytes leave, and their room is free: the bytes, and zeros behind them. Where they are not held, or n is above 5, nothing changes.
+    pub fn take(&mut self, n: usize) -> [u8; 5]
+        ensures { taken result self.new ≡ take_of self.old n }
+    {
+        if 5 < n || self.held < 8 * n {
+            return [0; 5];
+        }
+        let out = first_bytes(self.bytes, n);
+        let bytes = shift(self.bytes, n);
+        self.bytes = bytes;
+        self.held -= 8 * n;
+        out
     }
 }

@@ -2,6 +2,7 @@
 #![tactic(auto)]
 
 ghost use Rattle.std.specs.Prelude.{◌≡◌, length};
+ghost use Rattle.laws.specs.Refusals.{done_of};
 ghost use Rattle.packet.specs.Writing.{write_done, write_out};
 ghost use Rattle.packet.specs.Reading as packet;
 ghost use Rattle.transport.specs.Writing as transport_writing;
@@ -11,30 +12,29 @@ ghost use Rattle.sampling.specs.Samples.{sample_done, sample_out};
 ghost use Rattle.picture.specs.Lines.{is_monitored};
 ghost use Rattle.host.specs.Host.{read_done, read_out};
 
-use laws::Done;
+use laws::{Done, Refusal};
 
 // What a container says, flat, into the lent buffer: 20 to 28, 12.
-fn read_flat(bytes: &[u8], out: &mut [u8]) -> Done
-    ensures { (result ≡ read_done bytes.now (length out.old)) × (out.new ≡ read_out bytes.now out.old) }
+fn read_flat(bytes: &[u8], out: &mut [u8]) -> Result<usize, Refusal>
+    ensures { (done_of result ≡ read_done bytes.now (length out.old)) × (out.new ≡ read_out bytes.now out.old) }
 {
-    let r = container::read_container(bytes);
-    let number = r.number;
-    if number != 0 {
-        return Done { number, written: 0 };
-    }
-    let contents = r.contents;
+    let contents = container::read_container(bytes)?;
     let flat = flat::flatten(contents);
     if out.len() < 283 {
-        return Done {
-            number: 12,
-            written: 0,
-        };
+        return Err(Refusal::NoRoom);
     }
     laws::copy_at(&flat, out, 0);
-    Done {
-        number: 0,
-        written: 283,
-    }
+    Ok(283)
+}
+
+// An answer as C is told it: the number as the result, the written length at its place.
+fn tell(answer: Result<usize, Refusal>, written: &mut usize) -> u8
+    ensures value { result ≡ (done_of answer).number }
+    ensures written_after { written.new ≡ (done_of answer).written }
+{
+    let done = Done::from(answer);
+    *written = done.written;
+    done.number
 }
 
 // Read container, its contents flat: 20 to 28, 12.
@@ -43,9 +43,7 @@ pub fn lipsync_read_container(bytes: &[u8], out: &mut [u8], written: &mut usize)
     ensures out_after { out.new ≡ read_out bytes.now out.old }
     ensures written_after { written.new ≡ (read_done bytes.now (length out.old)).written }
 {
-    let d = read_flat(bytes, out);
-    *written = d.written;
-    d.number
+    tell(read_flat(bytes, out), written)
 }
 
 // Write packet: 20 to 28, 12.
@@ -54,9 +52,7 @@ pub fn lipsync_write_packet(container: &[u8], out: &mut [u8], written: &mut usiz
     ensures out_after { out.new ≡ write_out container.now out.old }
     ensures written_after { written.new ≡ (write_done container.now (length out.old)).written }
 {
-    let d = packet::write_packet(container, out);
-    *written = d.written;
-    d.number
+    tell(packet::write_packet(container, out), written)
 }
 
 // Read packet: 30 to 36, 20 to 28, 12.
@@ -65,9 +61,7 @@ pub fn lipsync_read_packet(words: &[u8], out: &mut [u8], written: &mut usize) ->
     ensures out_after { out.new ≡ packet.read_out words.now out.old }
     ensures written_after { written.new ≡ (packet.read_done words.now (length out.old)).written }
 {
-    let d = packet::read_packet(words, out);
-    *written = d.written;
-    d.number
+    tell(packet::read_packet(words, out), written)
 }
 
 // Write transport packet: 20 to 28, 12.
@@ -76,9 +70,7 @@ pub fn lipsync_write_transport(container: &[u8], out: &mut [u8], written: &mut u
     ensures out_after { out.new ≡ transport_writing.write_out container.now out.old }
     ensures written_after { written.new ≡ (transport_writing.write_done container.now (length out.old)).written }
 {
-    let d = transport::write_transport(container, out);
-    *written = d.written;
-    d.number
+    tell(transport::write_transport(container, out), written)
 }
 
 // Read transport packet: 40 to 43, 20 to 28, 12.
@@ -87,9 +79,7 @@ pub fn lipsync_read_transport(bytes: &[u8], out: &mut [u8], written: &mut usize)
     ensures out_after { out.new ≡ transport_reading.read_out bytes.now out.old }
     ensures written_after { written.new ≡ (transport_reading.read_done bytes.now (length out.old)).written }
 {
-    let d = transport::read_transport(bytes, out);
-    *written = d.written;
-    d.number
+    tell(transport::read_transport(bytes, out), written)
 }
 
 // Mend: 51, 50, 12.
@@ -98,9 +88,7 @@ pub fn lipsync_mend(recording: &[u8], out: &mut [u8], written: &mut usize) -> u8
     ensures out_after { out.new ≡ mend_out recording.now out.old }
     ensures written_after { written.new ≡ (mend_done recording.now (length out.old)).written }
 {
-    let d = mending::mend(recording, out);
-    *written = d.written;
-    d.number
+    tell(mending::mend(recording, out), written)
 }
 
 // Line sampling: 1, 2, 12.
@@ -109,9 +97,7 @@ pub fn lipsync_sample_line(format: u8, line: &[u8], out: &mut [u8], written: &mu
     ensures out_after { out.new ≡ sample_out format line.now out.old }
     ensures written_after { written.new ≡ (sample_done format line.now out.old).written }
 {
-    let d = sampling::sample_line(format, line, out);
-    *written = d.written;
-    d.number
+    tell(sampling::sample_line(format, line, out), written)
 }
 
 // Whether a line of a format is monitored, for a host that skips the others.

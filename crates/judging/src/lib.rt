@@ -149,19 +149,24 @@ pub fn judge(k: Known, words: &[u8]) -> Judged
     ensures { result ≡ judged_of k words.now }
 {
     let mut bytes = [0u8; 255];
-    let done = packet::read_packet(words, &mut bytes);
-    if done.number != 0 {
-        return Judged {
-            faults: Faults {
-                refused: done.number,
-                counter: false,
-                rate: false,
-                count: false,
-                cadence: false,
-            },
-            known: k,
-        };
+    let size = match packet::read_packet(words, &mut bytes) {
+        Ok(size) => size,
+        Err(why) => {
+            return Judged {
+                faults: Faults {
+                    refused: why.number(),
+                    counter: false,
+                    rate: false,
+                    count: false,
+                    cadence: false,
+                },
+                known: k,
+            };
+        }
+    };
+    match container::read_container(&bytes[..size]) {
+        Ok(contents) => judge_contents(k, contents),
+        // what an accepted packet carries is an accepted container
+        Err(_) => unreachable!(),
     }
-    let read = container::read_container(&bytes[..done.written]);
-    judge_contents(k, read.contents)
 }

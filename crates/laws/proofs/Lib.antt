@@ -7,3 +7,4 @@ pub mod Calls
 pub mod Once
 pub mod Unique
 pub mod Layers
+pub mod Refusals

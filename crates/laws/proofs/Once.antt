@@ -1,6 +1,6 @@
 -- No second outcome: what it says of a contract, and why it holds of one that gives each outcome by an equation.
 -- A contract is taken as the function's own `Post` has it: lifetimes, arguments, result, and the lent values at exit.
-use mathlib.Core.Path.{◌≡◌, sym, ◌∙◌}
+use mathlib.Core.Path.{◌≡◌, refl, sym, ◌∙◌}
 
 module _ {L : Type 0} {A R S : L → Type 0} (Post : (κs : L) → A κs → R κs → S κs → Type 0) where
   -- no two results meet the contract
@@ -21,3 +21,7 @@ one_value p q = p ∙ sym q
 
 pub one_pair : {A B : Type 0} {a x y : A} {b v w : B} → (x ≡ a) × (v ≡ b) → (y ≡ a) × (w ≡ b) → (x ≡ y) × (v ≡ w)
 one_pair p q = (one_value p.0 q.0, one_value p.1 q.1)
+
+-- a state and what is lent beside it
+pub one_both : {A B : Type 0} {a a' : A} {b b' : B} → a ≡ a' → b ≡ b' → ◌≡◌ {A = A × B} (a, b) (a', b')
+one_both p q = rw (p, q) refl

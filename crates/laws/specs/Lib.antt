@@ -3,3 +3,4 @@ pub mod Sums
 pub mod Bytes
 pub mod Video
 pub mod Lists
+pub mod Refusals

@@ -1,13 +1,14 @@
 // Mending recordings that were cut or overwritten: at each place a whole field whose container is accepted is kept, or a byte dropped (02, A8).
 #![tactic(auto)]
 
-ghost use Rattle.std.specs.Prelude.{◌≡◌, true, false, ◌+◌, ◌≤◌, ◌<◌, length, drop, leb};
+ghost use Rattle.std.specs.Prelude.{◌≡◌, true, false, ◌+◌, ◌≤◌, ◌<◌, IfOk, length, drop, leb};
 ghost use Rattle.std.proofs.lemmas.List.Edits.{sets};
+ghost use Rattle.laws.specs.Refusals.{number_in, done_of};
 ghost use Rattle.mending.specs.Fields.{field_size, acceptable};
-ghost use Rattle.mending.specs.Mending.{mended, mend_done, mend_out};
+ghost use Rattle.mending.specs.Mending.{mended, recording_number, mend_done, mend_out};
 ghost use Rattle.mending.specs.Places.{gap, Stretch, Before};
 
-use laws::Done;
+use laws::Refusal;
 
 pub mod tool;
 
@@ -19,7 +20,7 @@ fn starts_field(rest: &[u8]) -> bool
         return false;
     }
     let end = records::pair_at(rest, 1) + 3;
-    end <= rest.len() && container::container_number(&rest[3..end]) == 0
+    end <= rest.len() && container::check_container(&rest[3..end]).is_ok()
 }
 
 // The first place from a place on that starts such a field, or the recording's end.
@@ -33,6 +34,21 @@ pub(crate) fn next_field(recording: &[u8], from: usize) -> usize
         }
     }
     recording.len()
+}
+
+// The first place of a recording that starts such a field: 51, 50.
+pub(crate) fn first_field(recording: &[u8]) -> Result<usize, Refusal>
+    ensures number { number_in result ≡ recording_number recording.now }
+    ensures place { IfOk result (λ first. (first ≡ gap recording.now) × (first < length recording.now)) }
+{
+    if 65536 < recording.len() {
+        return Err(Refusal::RecordingTooLong);
+    }
+    let first = next_field(recording, 0);
+    if first == recording.len() {
+        return Err(Refusal::NothingKept);
+    }
+    Ok(first)
 }
 
 // Where the field at a place ends.
@@ -93,35 +109,17 @@ fn has_room(recording: &[u8], from: usize, size: usize, room: usize) -> bool
 }
 
 // Mend: 51, 50, 12. The first fields that follow one another are found once, for the room and for the copy.
-pub fn mend(recording: &[u8], out: &mut [u8]) -> Done
-    ensures { (result ≡ mend_done recording.now (length out.old)) × (out.new ≡ mend_out recording.now out.old) }
+pub fn mend(recording: &[u8], out: &mut [u8]) -> Result<usize, Refusal>
+    ensures { (done_of result ≡ mend_done recording.now (length out.old)) × (out.new ≡ mend_out recording.now out.old) }
 {
-    if 65536 < recording.len() {
-        return Done {
-            number: 51,
-            written: 0,
-        };
-    }
-    let first = next_field(recording, 0);
-    if first == recording.len() {
-        return Done {
-            number: 50,
-            written: 0,
-        };
-    }
+    let first = first_field(recording)?;
     let end = fields_end(recording, first);
     let size = end - first;
     let next = place_behind(recording, end);
     if !has_room(recording, next, size, out.len()) {
-        return Done {
-            number: 12,
-            written: 0,
-        };
+        return Err(Refusal::NoRoom);
     }
     laws::copy_at(&recording[first..end], out, 0);
     let rest = put_kept(recording, next, out, size);
-    Done {
-        number: 0,
-        written: size + rest,
-    }
+    Ok(size + rest)
 }

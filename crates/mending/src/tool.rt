@@ -5,7 +5,7 @@ ghost use Rattle.text.specs.Lines.{Put};
 ghost use Rattle.mending.specs.Report.{kept_text, mended_text, reported};
 ghost use Rattle.mending.specs.Places.{gap, run_between};
 
-use crate::{field_end, next_field};
+use crate::{field_end, first_field, next_field};
 
 // The line of the bytes dropped from start up to end; none where there are none.
 fn put_run(start: usize, end: usize, out: &mut [u8], at: usize) -> usize
@@ -53,12 +53,8 @@ pub fn report(recording: &[u8], out: &mut [u8]) -> usize
     ensures value { (result ≡ length (reported recording.now)) × (out.new ≡ sets out.old 0 (reported recording.now)) }
     ensures upper_bound { result ≤ 163871 }
 {
-    if 65536 < recording.len() {
-        return text::put_refused(51, out);
+    match first_field(recording) {
+        Ok(first) => put_report(recording, first, out),
+        Err(why) => text::put_refused(why.number(), out),
     }
-    let first = next_field(recording, 0);
-    if first == recording.len() {
-        return text::put_refused(50, out);
-    }
-    put_report(recording, first, out)
 }

@@ -1,10 +1,12 @@
 // The refusals of a packet's own words, and the bytes that its user words carry.
 ghost use Rattle.std.specs.Prelude.{◌≡◌, map, ◌*◌, ◌/◌, ◌≤◌, length};
 ghost use Rattle.std.proofs.lemmas.List.Edits.{sets};
+ghost use Rattle.laws.specs.Refusals.{number_in};
 ghost use Rattle.packet.specs.Words.{words_of, low};
 ghost use Rattle.packet.specs.Reading.{every, ten_bits, parity_right, count_of, start_right, names_right, body_number, frame_number};
 
 use crate::words::{check_of, word_at, word_of};
+use laws::Refusal;
 
 // Whether no word is above 3FFh.
 fn ten_bits(words: &[u8]) -> bool
@@ -48,42 +50,42 @@ pub(crate) fn count_of(words: &[u8]) -> usize
     usize::from(word_at(words, 5) % 256)
 }
 
-// The first of 34 to 36 that applies, or 0.
-fn body_number(words: &[u8]) -> u8
+// The count, the user words and the checksum: 34 to 36.
+fn check_body(words: &[u8]) -> Result<(), Refusal>
     requires { 14 ≤ length words.now }
-    ensures { result ≡ body_number (words_of words.now) }
+    ensures { number_in result ≡ body_number (words_of words.now) }
 {
     let n = count_of(words);
     if !parity_right(word_at(words, 5)) || words.len() / 2 != n + 7 {
-        return 34;
+        return Err(Refusal::PacketCount);
     }
     let end = 12 + 2 * n;
     if !parities_right(&words[12..end]) {
-        return 35;
+        return Err(Refusal::PacketParity);
     }
     if word_at(words, n + 6) != check_of(&words[6..end]) {
-        return 36;
+        return Err(Refusal::PacketChecksum);
     }
-    0
+    Ok(())
 }
 
-// The first of 30 to 36 that applies, or 0.
-pub(crate) fn frame_number(words: &[u8]) -> u8
-    ensures { result ≡ frame_number words.now }
+// The packet's own words: 30 to 36.
+pub(crate) fn check_frame(words: &[u8]) -> Result<(), Refusal>
+    ensures { number_in result ≡ frame_number words.now }
 {
     if words.len() % 2 != 0 || !ten_bits(words) {
-        return 30;
+        return Err(Refusal::NotTenBits);
     }
     if words.len() / 2 < 7 {
-        return 31;
+        return Err(Refusal::PacketTooShort);
     }
     if !start_right(words) {
-        return 32;
+        return Err(Refusal::PacketStart);
     }
     if !names_right(words) {
-        return 33;
+        return Err(Refusal::PacketNames);
     }
-    body_number(words)
+    check_body(words)
 }
 
 // Bits 7-0 of each word, from the start of out on.

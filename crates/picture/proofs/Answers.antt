@@ -13,7 +13,7 @@ use Rattle.sampling.specs.Samples.{pixels}
 use Rattle.picture.specs.declared.Told.{Told}
 use Rattle.picture.specs.declared.Told.TheVariants.{Open, Nothing, Value}
 use Rattle.picture.specs.declared.Picture.{Picture}
-use Rattle.picture.specs.declared.Scanned.{Scanned}
+use Rattle.picture.specs.Pictures.{Scanned}
 use Rattle.picture.specs.Fields.{compared, told_fingerprint, told_ended}
 use Rattle.picture.specs.Lines.{interlaced, monitored, due_line, order_number, line_number}
 use Rattle.laws.specs.Video.{video_values}

@@ -9,12 +9,14 @@ use lib.ListN.{length}
 use Rattle.laws.specs.declared.Video.TheVariants.{Absent}
 use Rattle.laws.specs.Video.{video_values}
 use Rattle.laws.proofs.Tests.{chosen}
+use Rattle.std.proofs.Common.{Result, Ok, Err}
+use Rattle.laws.specs.declared.Refusal.{Refusal}
+use Rattle.laws.specs.Refusals.{number_in}
 use Rattle.sampling.specs.Formats.{row_of}
 use Rattle.sampling.specs.Samples.{pixels}
 use Rattle.picture.specs.declared.Told.{Told}
 use Rattle.picture.specs.declared.Picture.{Picture}
-use Rattle.picture.specs.declared.Scanned.{Scanned}
-use Rattle.picture.specs.declared.Handed.{Handed}
+use Rattle.picture.specs.Pictures.{Scanned, Handed, scanned, told_in}
 use Rattle.picture.specs.Lines.{due_line}
 use Rattle.picture.specs.Fields.{compared, compared_values, told_by, told_values, told_ended, Says, says_of}
 use Rattle.picture.specs.Pictures.{with_row, field_ended, taken, number_at, line_of, handed_out, ends_field, field_gives, line_says, handed_values}
@@ -93,3 +95,8 @@ handed_says p = go p.frame.ready refl
     go : (b : Bool) → p.frame.ready ≡ b → video_values (handed_out p).shown ≡ handed_values p
     go true e = rw e refl
     go false e = rw e refl
+
+-- an answer says what the number and the told value of its record say
+pub answer_said : (r : Result Told Refusal) (p : Picture) → says_of (number_in r) (told_in r) ≡ says_of (scanned r p).number (scanned r p).told
+answer_said (Ok told) p = refl
+answer_said (Err why) p = refl

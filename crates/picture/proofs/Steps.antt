@@ -16,8 +16,8 @@ use Rattle.picture.specs.declared.Told.TheVariants.{Open}
 use Rattle.laws.specs.declared.Video.{Video}
 use Rattle.laws.specs.declared.Video.TheVariants.{Absent}
 use Rattle.picture.specs.declared.Picture.{Picture}
-use Rattle.picture.specs.declared.Scanned.{Scanned}
-use Rattle.picture.specs.declared.Handed.{Handed}
+use Rattle.picture.specs.Pictures.{Scanned}
+use Rattle.picture.specs.Pictures.{Handed}
 use Rattle.picture.specs.Lines.{among, interlaced, monitored, due_line, order_number, line_number, judged_number}
 use Rattle.picture.specs.Pictures.{fresh_picture, empty_with, is_ready, restarted, handed_out, with_row, field_ended, taken, untouched, number_at, line_of}
 use Rattle.picture.specs.History.{fields, line_tells, next_field, next_line, starts_frame, Waiting, no_frame, is_waiting, waiting_shows, takes, lines_after, waiting_after, told_after, number_said, told_said}

@@ -1,5 +1,5 @@
 -- A picture by value, and what each call makes of it (01, "Video").
-use Rattle.std.specs.Prelude.{ℕ, ◌+◌, ◌*◌, Bool, true, false, cond, ◌&&◌, not, List, [], ◌++◌, ltb, eqb, length, take, drop, replicate}
+use Rattle.std.specs.Prelude.{ℕ, ◌+◌, ◌*◌, Bool, true, false, cond, ◌&&◌, not, List, [], ◌++◌, ltb, eqb, length, take, drop, replicate, Result, Ok, Err}
 use Rattle.sampling.specs.Formats.{row_of}
 use Rattle.sampling.specs.Samples.{pixels}
 use Rattle.picture.specs.declared.Told.{Told}
@@ -8,11 +8,34 @@ use Rattle.laws.specs.declared.Video.{Video}
 use Rattle.laws.specs.declared.Video.TheVariants.{Absent, One, Two}
 use Rattle.picture.specs.declared.Frame.{Frame}
 use Rattle.picture.specs.declared.Picture.{Picture}
-use Rattle.picture.specs.declared.Scanned.{Scanned}
-use Rattle.picture.specs.declared.Handed.{Handed}
 use Rattle.laws.specs.Video.{video_values}
+use Rattle.laws.specs.declared.Refusal.{Refusal}
+use Rattle.laws.specs.Refusals.{number_of}
 use Rattle.picture.specs.Fields.{compared_values, told_by, held_after, Says}
 use Rattle.picture.specs.Lines.{interlaced, due_line, judged_number}
+
+-- what Line tells: 01's number, what the line tells, and the picture after it
+pub record Scanned : Type 0 where
+  pub number : ℕ
+  pub told : Told
+  pub picture : Picture
+
+-- the same of an answer, with the picture that it leaves; a refusal tells nothing of a field
+abbrev pub scanned : Result Told Refusal → Picture → Scanned
+scanned (Ok told) p = record { number = 0; told = told; picture = p }
+scanned (Err why) p = record { number = number_of why; told = Open; picture = p }
+
+abbrev pub told_in : Result Told Refusal → Told
+told_in (Ok told) = told
+told_in (Err why) = Open
+
+-- what handing a frame out gives: the picture after it, and what the frame shows
+pub record Handed : Type 0 where
+  pub picture : Picture
+  pub shown : Video
+
+abbrev pub handed_with : Video → Picture → Handed
+handed_with shown p = record { picture = p; shown = shown }
 
 -- "Video is present exactly when the frame gave a fingerprint for each of its fields"
 unfoldable pub shown_one : Told → Video

@@ -7,11 +7,12 @@ mod order;
 ghost use Rattle.std.specs.Prelude.{◌≡◌, ◌*◌, ◌<◌, length};
 ghost use Rattle.sampling.specs.Formats.{row_of};
 ghost use Rattle.picture.specs.Lines.{is_monitored};
-ghost use Rattle.picture.specs.Pictures.{empty_with, fresh_picture, is_ready, restarted, handed_out, shown_one, shown_two, frame_after, field_ended, taken, line_of, line_says, handed_values};
+ghost use Rattle.picture.specs.Pictures.{empty_with, fresh_picture, is_ready, restarted, handed_with, handed_out, shown_one, shown_two, frame_after, field_ended, taken, scanned, told_in, line_of, line_says, handed_values};
 ghost use Rattle.picture.specs.Fields.{says_of};
 ghost use Rattle.laws.specs.Video.{video_values};
+ghost use Rattle.laws.specs.Refusals.{number_in};
 
-use laws::Video;
+use laws::{Refusal, Video};
 
 // What a line tells: the field goes on, or it ended with no fingerprint, or with this one and so many pixels brighter and darker by 32 or more.
 #[derive(Clone, Copy)]
@@ -46,85 +47,99 @@ pub struct Picture {
     frame: Frame,
 }
 
-// What Line answers: 01's number, what the line tells, and the picture after it.
-#[derive(Clone, Copy)]
-pub struct Scanned {
-    pub number: u8,
-    pub told: Told,
-    pub picture: Picture,
-}
-
-// What handing a frame out gives: the picture after it, and what the frame shows.
-#[derive(Clone, Copy)]
-pub struct Handed {
-    pub picture: Picture,
-    pub shown: Video,
-}
-
-// Nothing is held, and field 1 is expected. The frame that waits to be packed, if any, is given.
-fn empty_with(ready: bool, shown: Video) -> Picture
-    ensures { result ≡ empty_with ready shown }
-{
-    Picture {
-        older: [0; 960],
-        newer: [0; 960],
-        filling: [0; 960],
-        row: 0,
-        held: 0,
-        frame: Frame {
-            field: 1,
-            first: Video::Absent,
-            ready,
-            shown,
-        },
+impl Picture {
+    // Nothing is held, and field 1 is expected. The frame that waits to be packed, if any, is given.
+    fn empty_with(ready: bool, shown: Video) -> Picture
+        ensures { result ≡ empty_with ready shown }
+    {
+        Picture {
+            older: [0; 960],
+            newer: [0; 960],
+            filling: [0; 960],
+            row: 0,
+            held: 0,
+            frame: Frame {
+                field: 1,
+                first: Video::Absent,
+                ready,
+                shown,
+            },
+        }
     }
-}
 
-// A picture as setup gives it.
-pub fn fresh() -> Picture
-    ensures { result ≡ fresh_picture }
-{
-    empty_with(false, Video::Absent)
-}
+    // A picture as setup gives it.
+    pub fn fresh() -> Picture
+        ensures { result ≡ fresh_picture }
+    {
+        Picture::empty_with(false, Video::Absent)
+    }
 
-// Whether a frame waits to be packed.
-#[tactic(auto, unfolding(crate::specs::Pictures::is_ready))]
-pub fn is_ready(p: Picture) -> bool
-    ensures { result ≡ is_ready p }
-{
-    p.frame.ready
-}
+    // Whether a frame waits to be packed.
+    pub fn is_ready(&self) -> bool
+        ensures { result ≡ is_ready self.now }
+    {
+        self.frame.ready
+    }
 
-// A video restart: all is forgotten but the frame that waits to be packed.
-#[tactic(auto, unfolding(crate::specs::Pictures::restarted))]
-pub fn restart(p: Picture) -> Picture
-    ensures { result ≡ restarted p }
-{
-    empty_with(p.frame.ready, p.frame.shown)
-}
+    // A video restart: all is forgotten but the frame that waits to be packed.
+    pub fn restart(&mut self)
+        ensures { self.new ≡ restarted self.old }
+    {
+        *self = Picture::empty_with(self.frame.ready, self.frame.shown);
+    }
 
-// The frame that waits is handed out, and waits no longer.
-pub fn hand_out(p: Picture) -> Handed
-    ensures { (result ≡ handed_out p) × (video_values result.shown ≡ handed_values p) }
-{
-    if p.frame.ready {
-        let frame = Frame {
-            ready: false,
-            shown: Video::Absent,
-            ..p.frame
-        };
-        // A changed copy: with the literal `Picture { frame, ..p }` here and its like in `take`, a call of Line took 1.16 to 1.28 times as long.
-        let mut picture = p;
-        picture.frame = frame;
-        Handed {
-            picture,
-            shown: p.frame.shown,
+    // The frame that waits is handed out, and waits no longer: what it shows.
+    pub fn hand_out(&mut self) -> Video
+        ensures frame { handed_with result self.new ≡ handed_out self.old }
+        ensures values { video_values result ≡ handed_values self.old }
+    {
+        if !self.frame.ready {
+            return Video::Absent;
         }
-    } else {
-        Handed {
-            picture: p,
-            shown: Video::Absent,
+        let shown = self.frame.shown;
+        self.frame.ready = false;
+        self.frame.shown = Video::Absent;
+        shown
+    }
+
+    // The field being filled is whole. It is compared with the older one, and only then do the slots move.
+    fn end_field(&mut self, two: bool) -> Told
+        ensures { scanned (Ok result) self.new ≡ field_ended self.old self.old.filling two }
+    {
+        let told = compare::told(self.held, &self.filling, &self.older);
+        self.older = self.newer;
+        self.newer = self.filling;
+        self.row = 0;
+        self.held = compare::held_after(self.held);
+        self.frame = frame_after(self.frame, told, two);
+        told
+    }
+
+    // The line that is due gives the next row of the field being filled; the 16th ends the field.
+    fn take(&mut self, format: u8, line: &[u8]) -> Told
+        requires { (self.old.row < 16) × ((format < 8) × (length line.now ≡ 2 * (row_of format).width)) }
+        ensures { scanned (Ok result) self.new ≡ taken self.old format line.now }
+    {
+        let from = self.row * 60;
+        let _ = sampling::sample_line(format, line, &mut self.filling[from..from + 60]);
+        if self.row < 15 {
+            self.row += 1;
+            return Told::Open;
         }
+        self.end_field(sampling::row_of(format).vstart2 != 0)
+    }
+
+    // 01's call Line, on a picture whose format is given.
+    pub fn line(&mut self, format: u8, number: usize, line: &[u8]) -> Result<Told, Refusal>
+        ensures answer { scanned result self.new ≡ line_of self.old format number line.now }
+        ensures says { says_of (number_in result) (told_in result) ≡ line_says self.old format number line.now }
+    {
+        let Frame { field, ready, .. } = self.frame;
+        order::check(format, field, self.row, ready, number, line.len())?;
+        if number != order::due_line(sampling::row_of(format), field, self.row) {
+            return Ok(Told::Open);
+        }
+        Ok(self.take(format, line))
     }
 }
 
@@ -173,73 +188,6 @@ fn frame_after(f: Frame, told: Told, two: bool) -> Frame
             shown_one(told)
         },
     }
-}
-
-// The field being filled is whole. It is compared with the older one, and only then do the slots move.
-fn end_field(p: Picture, filling: [u8; 960], two: bool) -> Scanned
-    ensures { result ≡ field_ended p filling two }
-{
-    let newer = p.newer;
-    let told = compare::told(p.held, &filling, &p.older);
-    let frame = frame_after(p.frame, told, two);
-    Scanned {
-        number: 0,
-        told,
-        picture: Picture {
-            older: newer,
-            newer: filling,
-            filling,
-            row: 0,
-            held: compare::held_after(p.held),
-            frame,
-        },
-    }
-}
-
-// The line that is due gives the next row of the field being filled; the 16th ends the field.
-fn take(p: Picture, format: u8, line: &[u8]) -> Scanned
-    requires { (p.row < 16) × ((format < 8) × (length line.now ≡ 2 * (row_of format).width)) }
-    ensures { result ≡ taken p format line.now }
-{
-    let from = p.row * 60;
-    let mut filling = p.filling;
-    sampling::sample_line(format, line, &mut filling[from..from + 60]);
-    if p.row < 15 {
-        // A changed copy, as in `hand_out`.
-        let mut picture = p;
-        picture.filling = filling;
-        picture.row = p.row + 1;
-        return Scanned {
-            number: 0,
-            told: Told::Open,
-            picture,
-        };
-    }
-    let r = sampling::row_of(format);
-    end_field(p, filling, r.vstart2 != 0)
-}
-
-// 01's call Line, on a picture whose format is given.
-pub fn line(p: Picture, format: u8, number: usize, line: &[u8]) -> Scanned
-    ensures { (result ≡ line_of p format number line.now) × (says_of result.number result.told ≡ line_says p format number line.now) }
-{
-    let f = p.frame;
-    let refusal = order::judge(format, f.field, p.row, f.ready, number, line.len());
-    if refusal != 0 {
-        return Scanned {
-            number: refusal,
-            told: Told::Open,
-            picture: p,
-        };
-    }
-    if number != order::due_line(sampling::row_of(format), f.field, p.row) {
-        return Scanned {
-            number: 0,
-            told: Told::Open,
-            picture: p,
-        };
-    }
-    take(p, format, line)
 }
 
 // Whether a line of a format is monitored, in either field: not where the format is not listed, nor where it has no such line.

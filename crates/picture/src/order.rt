@@ -1,7 +1,9 @@
 // Which line is due, and the refusals of Line (01, "What a caller is told").
 ghost use Rattle.std.specs.Prelude.{◌≡◌, ◌≤◌, ◌<◌};
+ghost use Rattle.laws.specs.Refusals.{number_in};
 ghost use Rattle.picture.specs.Lines.{among, monitored, due_line, order_number, judged_number};
 
+use laws::Refusal;
 use sampling::Row;
 
 // Whether a line is one of the 16 from first on, step apart.
@@ -33,33 +35,44 @@ pub(crate) fn due_line(r: Row, field: u8, row: usize) -> usize
     first + r.vstep * row
 }
 
-// 4 and 5, or 0.
-fn in_order(r: Row, due: usize, ready: bool, number: usize) -> u8
+// 4 and 5.
+fn check_order(r: Row, due: usize, ready: bool, number: usize) -> Result<(), Refusal>
     requires { 0 < r.vstep }
-    ensures { result ≡ order_number r due ready number }
+    ensures { number_in result ≡ order_number r due ready number }
 {
     if number != due {
-        if in_either_field(r, number) { 4 } else { 0 }
+        if in_either_field(r, number) {
+            Err(Refusal::NotTheDueLine)
+        } else {
+            Ok(())
+        }
     } else if ready && number == r.vstart1 {
-        5
+        Err(Refusal::FrameWaits)
     } else {
-        0
+        Ok(())
     }
 }
 
-// The number of the refusal, or 0. A row that no run makes gives 1, as an empty session does.
-pub(crate) fn judge(format: u8, field: u8, row: usize, ready: bool, number: usize, len: usize) -> u8
-    ensures { result ≡ judged_number format field row ready number len }
+// What refuses a line. A row that no run makes gives 1, as an empty session does.
+pub(crate) fn check(
+    format: u8,
+    field: u8,
+    row: usize,
+    ready: bool,
+    number: usize,
+    len: usize,
+) -> Result<(), Refusal>
+    ensures { number_in result ≡ judged_number format field row ready number len }
 {
     if 8 <= format || 16 <= row {
-        return 1;
+        return Err(Refusal::NotListed);
     }
     let r = sampling::row_of(format);
     if len != 2 * r.width {
-        return 2;
+        return Err(Refusal::LineLength);
     }
     if number < 1 || r.lines < number {
-        return 3;
+        return Err(Refusal::NoSuchLine);
     }
-    in_order(r, due_line(r, field, row), ready, number)
+    check_order(r, due_line(r, field, row), ready, number)
 }

@@ -15,10 +15,9 @@ use Rattle.records.specs.declared.Record.{Record}
 use Rattle.records.specs.declared.Record.TheVariants.{Whole, Cut, End}
 use Rattle.records.specs.Records.{record_at}
 use Rattle.receiving.specs.declared.Receiver.{Receiver}
-use Rattle.receiving.specs.declared.Asked.{Asked}
 use Rattle.receiving.specs.Slots.{container_in, is_held}
 use Rattle.receiving.specs.Numbers.{there_number, next_number}
-use Rattle.receiving.specs.Receiver.{slot_at, arrive_of, asking, next_done, asked_with, next_of, next_out}
+use Rattle.receiving.specs.Receiver.{Asked, slot_at, arrive_of, asking, next_done, asked_with, next_of, next_out}
 use Rattle.answers.specs.declared.Cause.{Cause}
 use Rattle.answers.specs.declared.Cause.TheVariants.{UnknownTag, TooLong, CutShort}
 use Rattle.answers.specs.declared.Hand.TheVariants.{Next}
@@ -35,9 +34,6 @@ use Rattle.answers.specs.Steps.{record_fed, step_line}
 
 abbrev pub Does : Step → Answered → List ℕ → Type 0
 Does t a w = (a ≡ t.answered) × (w ≡ t.left)
-
-pub does_as : (t u : Step) (a : Answered) (w : List ℕ) → t ≡ u → Does t a w → Does u a w
-does_as t u a w e p = subst (λ (x : Step). Does x a w) e p
 
 -- ---- asking for the next
 

@@ -4,9 +4,7 @@ use Rattle.laws.specs.declared.Done.{Done}
 use Rattle.laws.specs.Calls.{over}
 use Rattle.records.specs.Records.{byte_at}
 use Rattle.receiving.specs.declared.Receiver.{Receiver}
-use Rattle.receiving.specs.declared.Arrived.{Arrived}
-use Rattle.receiving.specs.declared.Asked.{Asked}
-use Rattle.receiving.specs.Receiver.{fresh_of, arrive_of, moved_on, next_of, next_out}
+use Rattle.receiving.specs.Receiver.{Arrived, Asked, fresh_of, arrive_of, moved_on, next_of, next_out}
 use Rattle.answers.specs.declared.Cause.{Cause}
 use Rattle.answers.specs.declared.Cause.TheVariants.{UnknownTag, TooShort, TooLong}
 use Rattle.answers.specs.declared.Hand.TheVariants.{Next}

@@ -12,11 +12,9 @@ use Rattle.laws.proofs.Calls.{told_zero}
 use Rattle.laws.proofs.Tests.{past}
 use Rattle.container.specs.Reading.{reading}
 use Rattle.receiving.specs.declared.Receiver.{Receiver}
-use Rattle.receiving.specs.declared.Arrived.{Arrived}
-use Rattle.receiving.specs.declared.Asked.{Asked}
 use Rattle.receiving.specs.Slots.{container_in, is_held}
 use Rattle.receiving.specs.Numbers.{place_number, arrive_number, there_number, next_number}
-use Rattle.receiving.specs.Receiver.{slot_at, distance_of, arriving, holding, arrive_of, moved_on, asking, next_done, asked_with, next_of, next_out}
+use Rattle.receiving.specs.Receiver.{Arrived, Asked, slot_at, distance_of, arriving, holding, arrive_of, moved_on, asking, next_done, asked_with, next_of, next_out}
 
 -- a place that is not refused is one of the eight, and free
 pub place_free : (d : ℕ) (held : Bool) → place_number d held ≡ 0 → (d < 8) × (held ≡ false)
@@ -40,8 +38,8 @@ arrive_free read d held e = go (eqb read 0) refl e
 
 -- ---- Arrival
 
-abbrev pub arrived : ℕ → Receiver → Arrived
-arrived number r = record { number = number; receiver = r }
+abbrev pub arrival : ℕ → Receiver → Arrived
+arrival number r = record { number = number; receiver = r }
 
 module _ (r : Receiver) (b : List ℕ) where
   pub unread : (n : ℕ) → n ≡ (reading b).number → (n ≡ 0 → ⊥) → arriving r b ≡ n
@@ -52,30 +50,30 @@ module _ (r : Receiver) (b : List ℕ) where
   unfolding arriving arrive_number
   placed e = rw (eq-eqb (reading b).number 0 e)
 
-  pub refused_arrival : (n : ℕ) → arriving r b ≡ n → (n ≡ 0 → ⊥) → arrived n r ≡ arrive_of r b
+  pub refused_arrival : (n : ℕ) → arriving r b ≡ n → (n ≡ 0 → ⊥) → arrival n r ≡ arrive_of r b
   unfolding arrive_of
   refused_arrival n e f = rw (e, ne_eqb n 0 f)
 
-  pub taken_in : arriving r b ≡ 0 → arrived 0 (holding r (distance_of r b) b) ≡ arrive_of r b
+  pub taken_in : arriving r b ≡ 0 → arrival 0 (holding r (distance_of r b) b) ≡ arrive_of r b
   unfolding arrive_of
   taken_in e = rw e
 
 -- ---- Asking for the next
 
-abbrev pub asked : ℕ → ℕ → Receiver → Asked
-asked number written r = record { number = number; written = written; receiver = r }
+abbrev pub told : ℕ → ℕ → Receiver → Asked
+told number written r = record { number = number; written = written; receiver = r }
 
 -- what is told and what is left
 abbrev pub Next : Receiver → List ℕ → Asked → List ℕ → Type 0
 Next r out a left = (a ≡ next_of r (length out)) × (left ≡ next_out r out)
 
 module _ (r : Receiver) (out : List ℕ) where
-  pub refused_next : (n : ℕ) → n ≡ asking r (length out) → (n ≡ 0 → ⊥) → Next r out (asked n 0 r) out
+  pub refused_next : (n : ℕ) → n ≡ asking r (length out) → (n ≡ 0 → ⊥) → Next r out (told n 0 r) out
   unfolding next_done next_of next_out asked_with done_with out_with
   refused_next n e f = rw (← e, ne_eqb n 0 f) (refl, refl)
 
   pub handed_over : asking r (length out) ≡ 0
-      → Next r out (asked 0 (length (container_in (slot_at r 0))) (moved_on r)) (over (container_in (slot_at r 0)) out)
+      → Next r out (told 0 (length (container_in (slot_at r 0))) (moved_on r)) (over (container_in (slot_at r 0)) out)
   unfolding next_done next_of next_out asked_with done_with out_with
   handed_over e = rw e (refl, refl)
 

@@ -11,7 +11,7 @@ use borrow.Author.Tests.{leb-true, eqb-true}
 use Rattle.laws.specs.declared.Video.{Video}
 use Rattle.laws.specs.declared.Video.TheVariants.{Absent, One, Two}
 use Rattle.container.specs.declared.Contents.{Contents}
-use Rattle.container.specs.declared.Reading.{Reading}
+use Rattle.container.specs.Reading.{Reading}
 use Rattle.rates.specs.Rates.{rate_listed, two_fields}
 use Rattle.container.specs.Writing.{id_readable, video_readable, readable}
 use Rattle.container.specs.Reading.{header_number, refusal, parts_say, id_in, video_in, audio_in, parts_reading, middle, reading}

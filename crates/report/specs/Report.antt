@@ -5,7 +5,7 @@ use Rattle.text.specs.Lines.{item, space, newline, refused_text}
 use Rattle.laws.specs.declared.Video.{Video}
 use Rattle.laws.specs.declared.Video.TheVariants.{Absent, One, Two}
 use Rattle.container.specs.declared.Contents.{Contents}
-use Rattle.container.specs.declared.Reading.{Reading}
+use Rattle.container.specs.Reading.{Reading}
 use Rattle.container.specs.Reading.{reading}
 
 -- `ok seq `

@@ -30,12 +30,10 @@ fn put_video(v: Video, out: &mut [u8], at: usize) -> usize
 fn put_accepted(c: Contents, out: &mut [u8]) -> usize
     ensures { Put out.old 0 (accepted_text c) out.new result }
 {
-    let present = c.hasid;
-    let video = c.video;
     let a = text::put_item(b"ok seq ", c.counter as u64, out, 0);
     let b = text::put_item(b" rate ", c.rate as u64, out, a);
-    let i = text::put_item(b" id ", laws::flag(present) as u64, out, b);
-    let v = put_video(video, out, i);
+    let i = text::put_item(b" id ", u8::from(c.hasid) as u64, out, b);
+    let v = put_video(c.video, out, i);
     let s = text::put_item(b" audio ", c.count as u64, out, v);
     text::put(b"\n", out, s)
 }
@@ -44,13 +42,10 @@ fn put_accepted(c: Contents, out: &mut [u8]) -> usize
 pub fn report(bytes: &[u8], out: &mut [u8]) -> usize
     ensures { (result ≡ length (reported (reading bytes.now))) × (out.new ≡ sets out.old 0 (reported (reading bytes.now))) }
 {
-    let r = container::read_container(bytes);
-    let number = r.number;
-    let contents = r.contents;
-    if number == 0 {
-        return put_accepted(contents, out);
+    match container::read_container(bytes) {
+        Ok(contents) => put_accepted(contents, out),
+        Err(why) => text::put_refused(why.number(), out),
     }
-    text::put_refused(number, out)
 }
 
 // "Of a longer input the first 300 bytes are taken."

@@ -4,6 +4,9 @@
 ghost use Rattle.std.specs.Prelude.{◌≡◌, [], ◌∷◌, ◌++◌, ◌+◌, ◌*◌, ◌/◌, ◌%◌, ◌≤◌, ◌<◌, length, get_or, drop};
 ghost use Rattle.sampling.specs.Formats.{named, row_of};
 ghost use Rattle.sampling.specs.Samples.{sample_at, tap_sum, mean_of, firsts, pixel_by, sample_done, sample_out};
+ghost use Rattle.laws.specs.Refusals.{done_of};
+
+use laws::Refusal;
 
 // A row of 01's table. vstart2 is 0 where a frame is one field; the taps of a pixel go from before samples before it to after samples after it.
 #[derive(Clone, Copy)]
@@ -179,28 +182,19 @@ fn fill_by_taps(line: &[u8], start: usize, step: usize, before: usize, n: usize,
 }
 
 // 01's call: 1 format, 2 length, 12 room.
-pub fn sample_line(format: u8, line: &[u8], out: &mut [u8]) -> laws::Done
-    ensures value { result ≡ sample_done format line.now out.old }
+pub fn sample_line(format: u8, line: &[u8], out: &mut [u8]) -> Result<usize, Refusal>
+    ensures value { done_of result ≡ sample_done format line.now out.old }
     ensures out_after { out.new ≡ sample_out format line.now out.old }
 {
     if 8 <= format {
-        return laws::Done {
-            number: 1,
-            written: 0,
-        };
+        return Err(Refusal::NotListed);
     }
     let r = row_of(format);
     if line.len() != 2 * r.width {
-        return laws::Done {
-            number: 2,
-            written: 0,
-        };
+        return Err(Refusal::LineLength);
     }
     if out.len() < 60 {
-        return laws::Done {
-            number: 12,
-            written: 0,
-        };
+        return Err(Refusal::NoRoom);
     }
     fill_by_taps(
         line,
@@ -210,8 +204,5 @@ pub fn sample_line(format: u8, line: &[u8], out: &mut [u8]) -> laws::Done
         r.before + 1 + r.after,
         out,
     );
-    laws::Done {
-        number: 0,
-        written: 60,
-    }
+    Ok(60)
 }

@@ -8,11 +8,15 @@ use borrow.Author.Tests.{leb-true, leb-false, lt-leb, eq-eqb, ne_eqb}
 use lib.Dec.{leb, eqb}
 use lib.ListN.{length}
 use Rattle.laws.proofs.Tests.{both, past}
+use Rattle.std.proofs.Common.{Result, Ok, Err}
 use Rattle.laws.specs.declared.Done.{Done}
+use Rattle.laws.specs.declared.Refusal.{Refusal}
+use Rattle.laws.specs.Refusals.{number_in}
 use Rattle.rates.specs.Rates.{pairs_with}
+use Rattle.picture.specs.declared.Told.{Told}
 use Rattle.picture.specs.declared.Told.TheVariants.{Open}
+use Rattle.picture.proofs.Says.{answer_said}
 use Rattle.picture.specs.declared.Picture.{Picture}
-use Rattle.picture.specs.declared.Scanned as scanned
 use Rattle.picture.specs.Pictures.{restarted, is_ready}
 use Rattle.picture.specs.Pictures as picture
 use Rattle.picture.specs.Fields.{told_values, told_ended, says_of}
@@ -20,7 +24,7 @@ use Rattle.fingerprint.specs.declared.Fingerprint.{Fingerprint}
 use Rattle.container.specs.Writing.{write_done, write_out}
 use Rattle.session.specs.declared.Settings.{Settings}
 use Rattle.session.specs.declared.Session.{Session}
-use Rattle.session.specs.Session.{is_set, rule_listed, setup_number, set_up_with, empty_session, setup_of, with_picture, line_of, line_says, with_fingerprint, reached, heard_with, video_restarted, audio_anew, audio_restarted}
+use Rattle.session.specs.Session.{is_set, rule_listed, setup_number, set_up_with, empty_session, setup_of, with_picture, lined, line_of, line_says, with_fingerprint, reached, heard_with, video_restarted, audio_anew, audio_restarted}
 use Rattle.session.specs.Packing.{contents_of, session_after, ready_number, pack_number, refused_with, pack_of, pack_out}
 
 -- settings of an accepted setup have at most 32 fingerprints
@@ -60,13 +64,27 @@ module _ (s : Session) where
   unfolding line_of line_says told_ended told_values
   line_1 e n b = (rw e, rw e)
 
-  pub line_set : set ≡ true → (n : ℕ) (b : List ℕ) (r : scanned.Scanned)
+  pub line_set : set ≡ true → (n : ℕ) (b : List ℕ) (r : picture.Scanned)
       → let p = s.programme.picture in
       let f = s.programme.settings.format in
       (r ≡ picture.line_of p f n b) × (says_of r.number r.told ≡ picture.line_says p f n b)
       → (record { number = r.number; told = r.told; session = with_picture s r.picture } ≡ line_of s n b) × (says_of r.number r.told ≡ line_says s n b)
   unfolding line_of line_says
   line_set e n b r p = (rw (e, ← p.0), rw (e, ← p.1))
+
+  -- the same by the picture's answer and the picture that it leaves
+  pub line_answered : set ≡ true → (n : ℕ) (b : List ℕ) (x : Result Told Refusal) (p : Picture)
+      → let f = s.programme.settings.format in
+      picture.scanned x p ≡ picture.line_of s.programme.picture f n b → says_of (number_in x) (picture.told_in x) ≡ picture.line_says s.programme.picture f n b
+      → (lined x (with_picture s p) ≡ line_of s n b) × (says_of (number_in x) (picture.told_in x) ≡ line_says s n b)
+  line_answered e n b x p a q =
+      let l = line_set e n b (picture.scanned x p) (a, sym (answer_said x p) ∙ q) in
+      (as_lined x p ∙ l.0, answer_said x p ∙ l.1)
+    where
+      as_lined : (x : Result Told Refusal) (p : Picture)
+          → lined x (with_picture s p) ≡ record { number = (picture.scanned x p).number; told = (picture.scanned x p).told; session = with_picture s (picture.scanned x p).picture }
+      as_lined (Ok told) p = refl
+      as_lined (Err why) p = refl
 
   -- ---- Sound, in a block or in floating point: what fingerprint k itself answers, and what it becomes
 

@@ -1,14 +1,15 @@
 -- Pack (01, The container, "Packing needs a ready frame .."; What a caller is told).
-use Rattle.std.specs.Prelude.{ℕ, ◌+◌, ◌%◌, List, Bool, cond, ◌||◌, eqb, length, get_or, replicate}
+use Rattle.std.specs.Prelude.{ℕ, ◌+◌, ◌%◌, List, Bool, cond, ◌||◌, eqb, length, get_or, replicate, Result}
 use Rattle.laws.specs.Calls.{unless}
 use Rattle.laws.specs.declared.Done.{Done}
+use Rattle.laws.specs.declared.Refusal.{Refusal}
+use Rattle.laws.specs.Refusals.{done_of}
 use Rattle.rates.specs.Cadence.{cadence, place_after}
 use Rattle.picture.specs.Pictures.{is_ready, handed_out}
 use Rattle.container.specs.declared.Contents.{Contents}
 use Rattle.container.specs.Writing.{write_done, write_out}
 use Rattle.session.specs.declared.Programme.{Programme}
 use Rattle.session.specs.declared.Session.{Session}
-use Rattle.session.specs.declared.Packed.{Packed}
 use Rattle.session.specs.declared.packing.Packing.{Packing}
 use Rattle.session.specs.Fingerprints.{each, shed, all_hold, prints_of, with_blanks}
 use Rattle.session.specs.Session.{is_set}
@@ -80,6 +81,16 @@ ready_number ready idLength = unless ready 10 (unless (eqb idLength 0 || eqb idL
 -- 1 for an empty session first
 unfoldable pub pack_number : Session → ℕ → ℕ
 pack_number s idLength = unless (is_set s.programme.settings) 1 (ready_number (is_ready s.programme.picture) idLength)
+
+-- what Pack tells: 01's number, how many bytes are written, and the session after it
+pub record Packed : Type 0 where
+  pub number : ℕ
+  pub written : ℕ
+  pub session : Session
+
+-- the same of an answer, with the session that it leaves
+abbrev pub packed : Result ℕ Refusal → Session → Packed
+packed answer s = record { number = (done_of answer).number; written = (done_of answer).written; session = s }
 
 abbrev pub refused_with : ℕ → Session → Packed
 refused_with number s = record { number = number; written = 0; session = s }

@@ -1,8 +1,11 @@
 -- A session and its calls but Pack (01, "What the card's software does", "What a caller is told"; 02, A3 and A9).
-use Rattle.std.specs.Prelude.{ℕ, List, [], Bool, false, cond, ◌&&◌, ◌||◌, leb, eqb, length, get_or, set}
+use Rattle.std.specs.Prelude.{ℕ, List, [], Bool, false, cond, ◌&&◌, ◌||◌, leb, eqb, length, get_or, set, Result, Ok, Err}
 use Rattle.laws.specs.Calls.{unless}
+use Rattle.laws.specs.declared.Refusal.{Refusal}
+use Rattle.laws.specs.Refusals.{number_of, number_in}
 use Rattle.rates.specs.Rates.{pairs_with, interval_of}
 use Rattle.picture.specs.declared.Picture.{Picture}
+use Rattle.picture.specs.declared.Told.{Told}
 use Rattle.picture.specs.declared.Told.TheVariants.{Open}
 use Rattle.picture.specs.Pictures.{fresh_picture, restarted}
 use Rattle.picture.specs.Fields.{Says}
@@ -13,9 +16,6 @@ use Rattle.fingerprint.specs.declared.Fingerprint.{Fingerprint}
 use Rattle.fingerprint.specs.State.{step_of, heard_of, sound_number, instant_number}
 use Rattle.session.specs.declared.Settings.{Settings}
 use Rattle.session.specs.declared.Session.{Session}
-use Rattle.session.specs.declared.Begun.{Begun}
-use Rattle.session.specs.declared.Lined.{Lined}
-use Rattle.session.specs.declared.Sounded.{Sounded}
 use Rattle.session.specs.Fingerprints.{each, all_listed, fresh_fingerprints, cleared}
 
 -- there is a session: a format with a rate that it takes, and 1 to 32 fingerprints
@@ -55,6 +55,15 @@ set_up_with format rate rule count mixes =
 unfoldable pub empty_session : Session
 empty_session = set_up_with 0 0 0 0 []
 
+-- what Setup tells: 01's number, and the session that it gives
+pub record Begun : Type 0 where
+  pub number : ℕ
+  pub session : Session
+
+-- the same of an answer, with the session that it leaves
+abbrev pub begun : Result Unit Refusal → Session → Begun
+begun answer s = record { number = number_in answer; session = s }
+
 unfoldable pub setup_of : ℕ → ℕ → ℕ → List ℕ → Begun
 setup_of format rate rule mixes =
     cond (eqb (setup_number format rate rule mixes) 0)
@@ -62,6 +71,17 @@ setup_of format rate rule mixes =
     (record { number = setup_number format rate rule mixes; session = empty_session })
 
 -- ---- Line
+
+-- what Line tells: 01's number, what the line tells, and the session after it
+pub record Lined : Type 0 where
+  pub number : ℕ
+  pub told : Told
+  pub session : Session
+
+-- the same of an answer, with the session that it leaves; a refusal tells nothing of a field
+abbrev pub lined : Result Told Refusal → Session → Lined
+lined (Ok told) s = record { number = 0; told = told; session = s }
+lined (Err why) s = record { number = number_of why; told = Open; session = s }
 
 -- a session with another picture
 abbrev pub with_picture : Session → Picture → Session
@@ -95,6 +115,15 @@ line_says s number line =
     (record { number = 1; ended = false; values = [] })
 
 -- ---- Sound
+
+-- what a call with sound tells: 01's number, and the session after it
+pub record Sounded : Type 0 where
+  pub number : ℕ
+  pub session : Session
+
+-- the same of an answer, with the session that it leaves
+abbrev pub sounded : Result Unit Refusal → Session → Sounded
+sounded answer s = record { number = number_in answer; session = s }
 
 abbrev pub no_fingerprint : Fingerprint
 no_fingerprint = record { mix = 0; envelope = 0; mean = 0; wait = 0; started = false; held = 0; bytes = [] }

@@ -35,9 +35,9 @@ pub(crate) fn fresh_fingerprints(mixes: &[u8]) -> [Fingerprint; 32]
     requires { length mixes.now ≤ 32 }
     ensures { result ≡ fresh_fingerprints mixes.now }
 {
-    let mut fingerprints = [fingerprint::fresh(0); 32];
+    let mut fingerprints = [Fingerprint::fresh(0); 32];
     for (k, &mix) in mixes.iter().enumerate() {
-        fingerprints[k] = fingerprint::fresh(mix);
+        fingerprints[k] = Fingerprint::fresh(mix);
     }
     fingerprints
 }
@@ -49,7 +49,7 @@ pub(crate) fn clear(fingerprints: [Fingerprint; 32], n: usize) -> [Fingerprint; 
 {
     let mut next = fingerprints;
     for k in 0..n {
-        next[k] = fingerprint::restart(next[k]);
+        next[k].restart();
     }
     next
 }
@@ -59,25 +59,23 @@ pub(crate) fn all_hold(fingerprints: [Fingerprint; 32], n: usize, due: usize) ->
     requires { n ≤ 32 }
     ensures { result ≡ list_all (λ f. holds_of f due) (take n fingerprints) }
 {
-    fingerprints[..n]
-        .iter()
-        .all(|&f| fingerprint::holds(f, due))
+    fingerprints[..n].iter().all(|f| f.holds(due))
 }
 
 // Fingerprint k as a container says it, with ID k and the bytes that are due, and the fingerprint without them.
 fn say(k: u8, f: Fingerprint, due: u8) -> Part
     ensures { result ≡ part_of k due f }
 {
-    let t = fingerprint::take(f, due as usize);
-    let bytes = t.bytes;
+    let mut left = f;
+    let bytes = left.take(usize::from(due));
     Part {
         print: Print {
             id: k,
-            mix: fingerprint::mix_type(f),
+            mix: f.mix_type(),
             size: due,
             bytes,
         },
-        left: t.fingerprint,
+        left,
     }
 }
 

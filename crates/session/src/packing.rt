@@ -62,9 +62,10 @@ pub(crate) fn make(s: Session, id: &[u8]) -> Packing
     let audio = all_hold(s.fingerprints, settings.count as usize, due as usize);
     let count = spoken(audio, settings.count);
     let parts = say_all(s.fingerprints, count as usize, due);
+    let mut picture = p.picture;
+    let shown = picture.hand_out();
     let said = parts.said;
     let left = parts.left;
-    let h = picture::hand_out(p.picture);
     let bytes = id_bytes(id);
     Packing {
         contents: Contents {
@@ -72,14 +73,14 @@ pub(crate) fn make(s: Session, id: &[u8]) -> Packing
             rate: settings.rate,
             hasid: id.len() == 20,
             id: bytes,
-            video: h.shown,
+            video: shown,
             count,
             prints: said,
         },
         session: Session {
             programme: Programme {
                 settings,
-                picture: h.picture,
+                picture,
                 counter: counter_after(p.counter),
                 place: place_after(audio, settings.rate, p.place),
             },

@@ -3,10 +3,11 @@
 
 ghost use Rattle.std.specs.Prelude.{◌≡◌, ◌+◌, ◌≤◌, length};
 ghost use Rattle.laws.specs.Calls.{over};
+ghost use Rattle.laws.specs.Refusals.{number_in, done_of};
 ghost use Rattle.transport.specs.Writing.{transport_bytes, write_done, write_out};
 ghost use Rattle.transport.specs.Reading.{start_right, frame_number, read_done, read_out};
 
-use laws::Done;
+use laws::Refusal;
 
 mod register;
 mod table;
@@ -25,25 +26,16 @@ fn put_transport(container: &[u8], out: &mut [u8])
 }
 
 // Write transport packet: 20 to 28, 12.
-pub fn write_transport(container: &[u8], out: &mut [u8]) -> Done
-    ensures { (result ≡ write_done container.now (length out.old)) × (out.new ≡ write_out container.now out.old) }
+pub fn write_transport(container: &[u8], out: &mut [u8]) -> Result<usize, Refusal>
+    ensures { (done_of result ≡ write_done container.now (length out.old)) × (out.new ≡ write_out container.now out.old) }
 {
-    let number = container::container_number(container);
-    if number != 0 {
-        return Done { number, written: 0 };
-    }
+    container::check_container(container)?;
     let size = container.len() + 10;
     if out.len() < size {
-        return Done {
-            number: 12,
-            written: 0,
-        };
+        return Err(Refusal::NoRoom);
     }
     put_transport(container, out);
-    Done {
-        number: 0,
-        written: size,
-    }
+    Ok(size)
 }
 
 fn start_right(bytes: &[u8]) -> bool
@@ -53,51 +45,36 @@ fn start_right(bytes: &[u8]) -> bool
     matches!(bytes, [0x00, 0x00, 0x01, 0xbf, ..])
 }
 
-// The first of 40 to 43 that applies, or 0.
-fn frame_number(bytes: &[u8]) -> u8
-    ensures { result ≡ frame_number bytes.now }
+// The packet's own bytes: 40 to 43.
+fn check_frame(bytes: &[u8]) -> Result<(), Refusal>
+    ensures { number_in result ≡ frame_number bytes.now }
 {
     if bytes.len() < 10 {
-        return 40;
+        return Err(Refusal::TransportTooShort);
     }
     if !start_right(bytes) {
-        return 41;
+        return Err(Refusal::StartCode);
     }
     if bytes.len() != records::pair_at(bytes, 4) + 6 {
-        return 42;
+        return Err(Refusal::TransportLength);
     }
     if register::register(bytes) != 0 {
-        return 43;
+        return Err(Refusal::Crc);
     }
-    0
+    Ok(())
 }
 
 // Read transport packet: 40 to 43, 20 to 28, 12.
-pub fn read_transport(bytes: &[u8], out: &mut [u8]) -> Done
-    ensures { (result ≡ read_done bytes.now (length out.old)) × (out.new ≡ read_out bytes.now out.old) }
+pub fn read_transport(bytes: &[u8], out: &mut [u8]) -> Result<usize, Refusal>
+    ensures { (done_of result ≡ read_done bytes.now (length out.old)) × (out.new ≡ read_out bytes.now out.old) }
 {
-    let frame = frame_number(bytes);
-    if frame != 0 {
-        return Done {
-            number: frame,
-            written: 0,
-        };
-    }
+    check_frame(bytes)?;
     let end = bytes.len() - 4;
-    let number = container::container_number(&bytes[6..end]);
-    if number != 0 {
-        return Done { number, written: 0 };
-    }
+    container::check_container(&bytes[6..end])?;
     let size = end - 6;
     if out.len() < size {
-        return Done {
-            number: 12,
-            written: 0,
-        };
+        return Err(Refusal::NoRoom);
     }
-    laws::copy_at(&bytes[6..end], out, 0);
-    Done {
-        number: 0,
-        written: size,
-    }
+    out[..size].copy_from_slice(&bytes[6..end]);
+    Ok(size)
 }

@@ -18,20 +18,20 @@ use Rattle.bench_video.proofs.bench_lines.Reads as bench_video_bench_lines
 use Rattle.container.proofs.blank_print.Reads as container_blank_print
 use Rattle.container.proofs.empty_contents.Reads as container_empty_contents
 use Rattle.container.proofs.read_container.Reads as container_read_container
-use Rattle.container.proofs.container_number.Reads as container_container_number
+use Rattle.container.proofs.check_container.Reads as container_check_container
 use Rattle.container.proofs.write_container.Reads as container_write_container
 use Rattle.feed.proofs.open.Reads as feed_open
 use Rattle.feed.proofs.next.Reads as feed_next
-use Rattle.fingerprint.proofs.fresh.Reads as fingerprint_fresh
-use Rattle.fingerprint.proofs.restart.Reads as fingerprint_restart
-use Rattle.fingerprint.proofs.mix_type.Reads as fingerprint_mix_type
-use Rattle.fingerprint.proofs.step.Reads as fingerprint_step
-use Rattle.fingerprint.proofs.heard.Reads as fingerprint_heard
-use Rattle.fingerprint.proofs.sound_number.Reads as fingerprint_sound_number
-use Rattle.fingerprint.proofs.instant_number.Reads as fingerprint_instant_number
-use Rattle.fingerprint.proofs.heard_instant.Reads as fingerprint_heard_instant
-use Rattle.fingerprint.proofs.holds.Reads as fingerprint_holds
-use Rattle.fingerprint.proofs.take.Reads as fingerprint_take
+use Rattle.fingerprint.proofs.Fingerprint.fresh.Reads as fingerprint_Fingerprint_fresh
+use Rattle.fingerprint.proofs.Fingerprint.restart.Reads as fingerprint_Fingerprint_restart
+use Rattle.fingerprint.proofs.Fingerprint.mix_type.Reads as fingerprint_Fingerprint_mix_type
+use Rattle.fingerprint.proofs.Fingerprint.step.Reads as fingerprint_Fingerprint_step
+use Rattle.fingerprint.proofs.Fingerprint.hear.Reads as fingerprint_Fingerprint_hear
+use Rattle.fingerprint.proofs.Fingerprint.hear_instant.Reads as fingerprint_Fingerprint_hear_instant
+use Rattle.fingerprint.proofs.Fingerprint.check_sound.Reads as fingerprint_Fingerprint_check_sound
+use Rattle.fingerprint.proofs.Fingerprint.check_instant.Reads as fingerprint_Fingerprint_check_instant
+use Rattle.fingerprint.proofs.Fingerprint.holds.Reads as fingerprint_Fingerprint_holds
+use Rattle.fingerprint.proofs.Fingerprint.take.Reads as fingerprint_Fingerprint_take
 use Rattle.flat.proofs.flatten.Reads as flat_flatten
 use Rattle.flat.proofs.unflatten.Reads as flat_unflatten
 use Rattle.floats.proofs.sample_of.Reads as floats_sample_of
@@ -52,17 +52,17 @@ use Rattle.judging.proofs.judge.Reads as judging_judge
 use Rattle.judging.proofs.report.open.Reads as judging_report_open
 use Rattle.judging.proofs.report.field.Reads as judging_report_field
 use Rattle.judging.proofs.report.close.Reads as judging_report_close
+use Rattle.laws.proofs.Refusal.number.Reads as laws_Refusal_number
 use Rattle.laws.proofs.copy_at.Reads as laws_copy_at
-use Rattle.laws.proofs.flag.Reads as laws_flag
 use Rattle.mending.proofs.mend.Reads as mending_mend
 use Rattle.mending.proofs.tool.report.Reads as mending_tool_report
 use Rattle.packet.proofs.write_packet.Reads as packet_write_packet
 use Rattle.packet.proofs.read_packet.Reads as packet_read_packet
-use Rattle.picture.proofs.fresh.Reads as picture_fresh
-use Rattle.picture.proofs.is_ready.Reads as picture_is_ready
-use Rattle.picture.proofs.restart.Reads as picture_restart
-use Rattle.picture.proofs.hand_out.Reads as picture_hand_out
-use Rattle.picture.proofs.line.Reads as picture_line
+use Rattle.picture.proofs.Picture.fresh.Reads as picture_Picture_fresh
+use Rattle.picture.proofs.Picture.is_ready.Reads as picture_Picture_is_ready
+use Rattle.picture.proofs.Picture.restart.Reads as picture_Picture_restart
+use Rattle.picture.proofs.Picture.hand_out.Reads as picture_Picture_hand_out
+use Rattle.picture.proofs.Picture.line.Reads as picture_Picture_line
 use Rattle.picture.proofs.is_monitored.Reads as picture_is_monitored
 use Rattle.rates.proofs.rate_listed.Reads as rates_rate_listed
 use Rattle.rates.proofs.interval.Reads as rates_interval
@@ -74,23 +74,26 @@ use Rattle.rates.proofs.pairs.Reads as rates_pairs
 use Rattle.rates.proofs.mix_listed.Reads as rates_mix_listed
 use Rattle.receive_feed.proofs.open.Reads as receive_feed_open
 use Rattle.receive_feed.proofs.next.Reads as receive_feed_next
-use Rattle.receiving.proofs.fresh.Reads as receiving_fresh
-use Rattle.receiving.proofs.arrive.Reads as receiving_arrive
-use Rattle.receiving.proofs.next.Reads as receiving_next
-use Rattle.receiving.proofs.give_up.Reads as receiving_give_up
+use Rattle.receiving.proofs.Receiver.fresh.Reads as receiving_Receiver_fresh
+use Rattle.receiving.proofs.Receiver.arrive.Reads as receiving_Receiver_arrive
+use Rattle.receiving.proofs.Receiver.next.Reads as receiving_Receiver_next
+use Rattle.receiving.specs.declared.Receiver as receiving_Receiver
+use Rattle.receiving.proofs.Receiver.give_up.Reads as receiving_Receiver_give_up
 use Rattle.records.proofs.pair_at.Reads as records_pair_at
 use Rattle.records.proofs.record_at.Reads as records_record_at
 use Rattle.report.proofs.report.Reads as report_report
 use Rattle.report.proofs.inspect.Reads as report_inspect
 use Rattle.sampling.proofs.row_of.Reads as sampling_row_of
 use Rattle.sampling.proofs.sample_line.Reads as sampling_sample_line
-use Rattle.session.proofs.setup.Reads as session_setup
-use Rattle.session.proofs.line.Reads as session_line
-use Rattle.session.proofs.sound.Reads as session_sound
-use Rattle.session.proofs.instant.Reads as session_instant
-use Rattle.session.proofs.video_restart.Reads as session_video_restart
-use Rattle.session.proofs.audio_restart.Reads as session_audio_restart
-use Rattle.session.proofs.pack.Reads as session_pack
+use Rattle.session.proofs.Session.empty.Reads as session_Session_empty
+use Rattle.session.proofs.Session.setup.Reads as session_Session_setup
+use Rattle.session.proofs.Session.line.Reads as session_Session_line
+use Rattle.session.proofs.Session.sound.Reads as session_Session_sound
+use Rattle.session.proofs.Session.instant.Reads as session_Session_instant
+use Rattle.session.proofs.Session.video_restart.Reads as session_Session_video_restart
+use Rattle.session.proofs.Session.audio_restart.Reads as session_Session_audio_restart
+use Rattle.session.proofs.Session.pack.Reads as session_Session_pack
+use Rattle.session.specs.declared.Session as session_Session
 use Rattle.sound.proofs.instant_bytes.Reads as sound_instant_bytes
 use Rattle.sound.proofs.mono_value.Reads as sound_mono_value
 use Rattle.sound.proofs.stereo_value.Reads as sound_stereo_value
@@ -177,8 +180,8 @@ container_empty_contents_unique = container_theorems.empty_contents_unique
 pub container_read_container_unique : OneResult container_read_container.Post
 container_read_container_unique = container_theorems.read_container_unique
 
-pub container_container_number_unique : OneResult container_container_number.Post
-container_container_number_unique = container_theorems.container_number_unique
+pub container_check_container_unique : OneResult container_check_container.Post
+container_check_container_unique = container_theorems.check_container_unique
 
 pub container_write_container_unique : OneOutcome container_write_container.Post (λ κs s. s.1.0.now)
 container_write_container_unique = container_theorems.write_container_unique
@@ -189,35 +192,35 @@ feed_open_unique = feed_theorems.open_unique
 pub feed_next_unique : OneOutcome feed_next.Post (λ κs s. s.1.1.0.now)
 feed_next_unique = feed_theorems.next_unique
 
-pub fingerprint_fresh_unique : OneResult fingerprint_fresh.Post
-fingerprint_fresh_unique = fingerprint_theorems.fresh_unique
+pub fingerprint_Fingerprint_fresh_unique : OneResult fingerprint_Fingerprint_fresh.Post
+fingerprint_Fingerprint_fresh_unique = fingerprint_theorems.Fingerprint_fresh_unique
 
-pub fingerprint_restart_unique : OneResult fingerprint_restart.Post
-fingerprint_restart_unique = fingerprint_theorems.restart_unique
+pub fingerprint_Fingerprint_restart_unique : OneLeft fingerprint_Fingerprint_restart.Post (λ κs s. s.0.now)
+fingerprint_Fingerprint_restart_unique = fingerprint_theorems.Fingerprint_restart_unique
 
-pub fingerprint_mix_type_unique : OneResult fingerprint_mix_type.Post
-fingerprint_mix_type_unique = fingerprint_theorems.mix_type_unique
+pub fingerprint_Fingerprint_mix_type_unique : OneResult fingerprint_Fingerprint_mix_type.Post
+fingerprint_Fingerprint_mix_type_unique = fingerprint_theorems.Fingerprint_mix_type_unique
 
-pub fingerprint_step_unique : OneResult fingerprint_step.Post
-fingerprint_step_unique = fingerprint_theorems.step_unique
+pub fingerprint_Fingerprint_step_unique : OneLeft fingerprint_Fingerprint_step.Post (λ κs s. s.0.now)
+fingerprint_Fingerprint_step_unique = fingerprint_theorems.Fingerprint_step_unique
 
-pub fingerprint_heard_unique : OneResult fingerprint_heard.Post
-fingerprint_heard_unique = fingerprint_theorems.heard_unique
+pub fingerprint_Fingerprint_hear_unique : OneLeft fingerprint_Fingerprint_hear.Post (λ κs s. s.0.now)
+fingerprint_Fingerprint_hear_unique = fingerprint_theorems.Fingerprint_hear_unique
 
-pub fingerprint_sound_number_unique : OneResult fingerprint_sound_number.Post
-fingerprint_sound_number_unique = fingerprint_theorems.sound_number_unique
+pub fingerprint_Fingerprint_hear_instant_unique : OneLeft fingerprint_Fingerprint_hear_instant.Post (λ κs s. s.0.now)
+fingerprint_Fingerprint_hear_instant_unique = fingerprint_theorems.Fingerprint_hear_instant_unique
 
-pub fingerprint_instant_number_unique : OneResult fingerprint_instant_number.Post
-fingerprint_instant_number_unique = fingerprint_theorems.instant_number_unique
+pub fingerprint_Fingerprint_check_sound_unique : OneResult fingerprint_Fingerprint_check_sound.Post
+fingerprint_Fingerprint_check_sound_unique = fingerprint_theorems.Fingerprint_check_sound_unique
 
-pub fingerprint_heard_instant_unique : OneResult fingerprint_heard_instant.Post
-fingerprint_heard_instant_unique = fingerprint_theorems.heard_instant_unique
+pub fingerprint_Fingerprint_check_instant_unique : OneResult fingerprint_Fingerprint_check_instant.Post
+fingerprint_Fingerprint_check_instant_unique = fingerprint_theorems.Fingerprint_check_instant_unique
 
-pub fingerprint_holds_unique : OneResult fingerprint_holds.Post
-fingerprint_holds_unique = fingerprint_theorems.holds_unique
+pub fingerprint_Fingerprint_holds_unique : OneResult fingerprint_Fingerprint_holds.Post
+fingerprint_Fingerprint_holds_unique = fingerprint_theorems.Fingerprint_holds_unique
 
-pub fingerprint_take_unique : OneResult fingerprint_take.Post
-fingerprint_take_unique = fingerprint_theorems.take_unique
+pub fingerprint_Fingerprint_take_unique : OneOutcome fingerprint_Fingerprint_take.Post (λ κs s. s.0.now)
+fingerprint_Fingerprint_take_unique = fingerprint_theorems.Fingerprint_take_unique
 
 pub flat_flatten_unique : OneResult flat_flatten.Post
 flat_flatten_unique = flat_theorems.flatten_unique
@@ -279,11 +282,11 @@ judging_report_field_unique = judging_theorems.field_unique
 pub judging_report_close_unique : OneOutcome judging_report_close.Post (λ κs s. s.1.0.now)
 judging_report_close_unique = judging_theorems.close_unique
 
+pub laws_Refusal_number_unique : OneResult laws_Refusal_number.Post
+laws_Refusal_number_unique = laws_theorems.Refusal_number_unique
+
 pub laws_copy_at_unique : OneLeft laws_copy_at.Post (λ κs s. s.1.0.now)
 laws_copy_at_unique = laws_theorems.copy_at_unique
-
-pub laws_flag_unique : OneResult laws_flag.Post
-laws_flag_unique = laws_theorems.flag_unique
 
 pub mending_mend_unique : OneOutcome mending_mend.Post (λ κs s. s.1.0.now)
 mending_mend_unique = mending_theorems.mend_unique
@@ -297,20 +300,20 @@ packet_write_packet_unique = packet_theorems.write_packet_unique
 pub packet_read_packet_unique : OneOutcome packet_read_packet.Post (λ κs s. s.1.0.now)
 packet_read_packet_unique = packet_theorems.read_packet_unique
 
-pub picture_fresh_unique : OneResult picture_fresh.Post
-picture_fresh_unique = picture_theorems.fresh_unique
+pub picture_Picture_fresh_unique : OneResult picture_Picture_fresh.Post
+picture_Picture_fresh_unique = picture_theorems.Picture_fresh_unique
 
-pub picture_is_ready_unique : OneResult picture_is_ready.Post
-picture_is_ready_unique = picture_theorems.is_ready_unique
+pub picture_Picture_is_ready_unique : OneResult picture_Picture_is_ready.Post
+picture_Picture_is_ready_unique = picture_theorems.Picture_is_ready_unique
 
-pub picture_restart_unique : OneResult picture_restart.Post
-picture_restart_unique = picture_theorems.restart_unique
+pub picture_Picture_restart_unique : OneLeft picture_Picture_restart.Post (λ κs s. s.0.now)
+picture_Picture_restart_unique = picture_theorems.Picture_restart_unique
 
-pub picture_hand_out_unique : OneResult picture_hand_out.Post
-picture_hand_out_unique = picture_theorems.hand_out_unique
+pub picture_Picture_hand_out_unique : OneOutcome picture_Picture_hand_out.Post (λ κs s. s.0.now)
+picture_Picture_hand_out_unique = picture_theorems.Picture_hand_out_unique
 
-pub picture_line_unique : OneResult picture_line.Post
-picture_line_unique = picture_theorems.line_unique
+pub picture_Picture_line_unique : OneOutcome picture_Picture_line.Post (λ κs s. s.0.now)
+picture_Picture_line_unique = picture_theorems.Picture_line_unique
 
 pub picture_is_monitored_unique : OneResult picture_is_monitored.Post
 picture_is_monitored_unique = picture_theorems.is_monitored_unique
@@ -345,17 +348,17 @@ receive_feed_open_unique = receive_feed_theorems.open_unique
 pub receive_feed_next_unique : OneOutcome receive_feed_next.Post (λ κs s. s.1.1.0.now)
 receive_feed_next_unique = receive_feed_theorems.next_unique
 
-pub receiving_fresh_unique : OneResult receiving_fresh.Post
-receiving_fresh_unique = receiving_theorems.fresh_unique
+pub receiving_Receiver_fresh_unique : OneResult receiving_Receiver_fresh.Post
+receiving_Receiver_fresh_unique = receiving_theorems.Receiver_fresh_unique
 
-pub receiving_arrive_unique : OneResult receiving_arrive.Post
-receiving_arrive_unique = receiving_theorems.arrive_unique
+pub receiving_Receiver_arrive_unique : OneOutcome receiving_Receiver_arrive.Post (λ κs s. s.0.now)
+receiving_Receiver_arrive_unique = receiving_theorems.Receiver_arrive_unique
 
-pub receiving_next_unique : OneOutcome receiving_next.Post (λ κs s. s.1.0.now)
-receiving_next_unique = receiving_theorems.next_unique
+pub receiving_Receiver_next_unique : OneOutcome receiving_Receiver_next.Post {X = receiving_Receiver.Receiver × List ℕ} (λ κs s. (s.0.now, s.1.0.now))
+receiving_Receiver_next_unique = receiving_theorems.Receiver_next_unique
 
-pub receiving_give_up_unique : OneResult receiving_give_up.Post
-receiving_give_up_unique = receiving_theorems.give_up_unique
+pub receiving_Receiver_give_up_unique : OneLeft receiving_Receiver_give_up.Post (λ κs s. s.0.now)
+receiving_Receiver_give_up_unique = receiving_theorems.Receiver_give_up_unique
 
 pub records_pair_at_unique : OneResult records_pair_at.Post
 records_pair_at_unique = records_theorems.pair_at_unique
@@ -375,26 +378,29 @@ sampling_row_of_unique = sampling_theorems.row_of_unique
 pub sampling_sample_line_unique : OneOutcome sampling_sample_line.Post (λ κs s. s.1.1.0.now)
 sampling_sample_line_unique = sampling_theorems.sample_line_unique
 
-pub session_setup_unique : OneResult session_setup.Post
-session_setup_unique = session_theorems.setup_unique
+pub session_Session_empty_unique : OneResult session_Session_empty.Post
+session_Session_empty_unique = session_theorems.Session_empty_unique
 
-pub session_line_unique : OneResult session_line.Post
-session_line_unique = session_theorems.line_unique
+pub session_Session_setup_unique : OneOutcome session_Session_setup.Post (λ κs s. s.0.now)
+session_Session_setup_unique = session_theorems.Session_setup_unique
 
-pub session_sound_unique : OneResult session_sound.Post
-session_sound_unique = session_theorems.sound_unique
+pub session_Session_line_unique : OneOutcome session_Session_line.Post (λ κs s. s.0.now)
+session_Session_line_unique = session_theorems.Session_line_unique
 
-pub session_instant_unique : OneResult session_instant.Post
-session_instant_unique = session_theorems.instant_unique
+pub session_Session_sound_unique : OneOutcome session_Session_sound.Post (λ κs s. s.0.now)
+session_Session_sound_unique = session_theorems.Session_sound_unique
 
-pub session_video_restart_unique : OneResult session_video_restart.Post
-session_video_restart_unique = session_theorems.video_restart_unique
+pub session_Session_instant_unique : OneOutcome session_Session_instant.Post (λ κs s. s.0.now)
+session_Session_instant_unique = session_theorems.Session_instant_unique
 
-pub session_audio_restart_unique : OneResult session_audio_restart.Post
-session_audio_restart_unique = session_theorems.audio_restart_unique
+pub session_Session_video_restart_unique : OneLeft session_Session_video_restart.Post (λ κs s. s.0.now)
+session_Session_video_restart_unique = session_theorems.Session_video_restart_unique
 
-pub session_pack_unique : OneOutcome session_pack.Post (λ κs s. s.1.1.0.now)
-session_pack_unique = session_theorems.pack_unique
+pub session_Session_audio_restart_unique : OneLeft session_Session_audio_restart.Post (λ κs s. s.0.now)
+session_Session_audio_restart_unique = session_theorems.Session_audio_restart_unique
+
+pub session_Session_pack_unique : OneOutcome session_Session_pack.Post {X = session_Session.Session × List ℕ} (λ κs s. (s.0.now, s.1.1.0.now))
+session_Session_pack_unique = session_theorems.Session_pack_unique
 
 pub sound_instant_bytes_unique : OneResult sound_instant_bytes.Post
 sound_instant_bytes_unique = sound_theorems.instant_bytes_unique

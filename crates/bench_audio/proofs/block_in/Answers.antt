@@ -7,4 +7,4 @@ pub returns : goal.returns
 unfolding next_turn
 returns c =
     let a = c.args in
-    (c.taken_in.ensures.0 ∙ ap (taken_in a.t.sum) c.heard.ensures, c.taken_in.ensures.1)
+    (c.taken_in.ensures.0 ∙ ap (taken_in a.t.sum) c.hear.ensures, c.taken_in.ensures.1)

@@ -3,7 +3,6 @@ use Prim.Native.Nat.{ℕ}
 use mathlib.Core.Path.{ap, ap₂, ◌∙◌}
 use native.Mathlib.Omega.{arith}
 use Rattle.session.specs.declared.Session.{Session}
-use Rattle.session.specs.declared.Begun.{Begun}
 use Rattle.bench_session.specs.declared.Load.{Load}
 use Rattle.bench_session.specs.Frames.{begun_with, two_of1080i, sum_after}
 use Rattle.bench_session.proofs.bench_session.Goals as goal
@@ -17,4 +16,4 @@ unfolding begun_with
 returns c =
     let a = c.args in
     let sum : Load → Session → ℕ = λ l s. sum_after l a.even.now a.odd.now a.block.now s a.rounds in
-    c.frames.ensures ∙ ap₂ sum c.two_of_1080i-load.ensures (ap (λ (b : Begun). b.session) c.setup-begun.ensures)
+    c.frames.ensures ∙ ap₂ sum c.two_of_1080i-load.ensures c.begin-s.ensures

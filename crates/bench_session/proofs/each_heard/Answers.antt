@@ -1,8 +1,7 @@
 use mathlib.Core.Path.{refl, ap, ◌∙◌}
 use native.Mathlib.Numerals.{add-one}
 use Rattle.session.specs.declared.Session.{Session}
-use Rattle.session.specs.declared.Sounded.{Sounded}
-use Rattle.session.specs.Session.{sound_of}
+use Rattle.session.specs.Session.{Sounded, sound_of}
 use Rattle.bench_session.specs.Frames.{each_heard}
 use Rattle.bench_session.proofs.each_heard.Goals as goal
 

@@ -2,9 +2,9 @@ use Prim.Native.Nat.{◌+◌, ◌*◌}
 use mathlib.Core.Path.{refl, ap, ◌∙◌}
 use native.Mathlib.Numerals.{add-one}
 use Rattle.session.specs.declared.Session.{Session}
-use Rattle.session.specs.declared.Lined.{Lined}
 use Rattle.session.specs.Session.{line_of}
 use Rattle.bench_session.specs.Frames.{field_lines}
+use Rattle.bench_session.proofs.Left.{line_left}
 use Rattle.bench_session.proofs.field.Goals as goal
 
 pub loop-k-init : goal.loop-k-init
@@ -16,4 +16,4 @@ unfolding field_lines
 loop-k-preserved c =
     let a = c.args in
     let l = c.loop-k in
-    rw add-one (ap (λ (r : Lined). r.session) (c.line.ensures.0 ∙ ap (λ (t : Session). line_of t (a.first + a.step * l.k) a.line.now) l.invariant))
+    rw add-one (line_left _ _ _ (c.line.ensures.answer ∙ ap (λ (t : Session). line_of t (a.first + a.step * l.k) a.line.now) l.invariant))

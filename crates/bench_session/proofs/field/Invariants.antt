@@ -4,4 +4,4 @@ use Rattle.bench_session.specs.Frames.{field_lines}
 use Rattle.bench_session.proofs.field.Given as goal
 
 abbrev pub invariant-loop-k : goal.invariant-loop-k
-invariant-loop-k l = l.t ≡ field_lines l.initial.t l.first l.step l.line l.k
+invariant-loop-k l = l.s ≡ field_lines l.initial.s l.first l.step l.line l.k

@@ -17,30 +17,30 @@ two_fields : (r : Row) (l : List ℕ) (s : Session) → (r.vstart2 ≡ 0 → ⊥
 unfolding fields_of
 two_fields r l s h = rw (ne_eqb _ _ h)
 
-pub field-one-requires : goal.field-one-requires
-field-one-requires c =
-    let n = subst Few (sym c.row_of-row.ensures) (few c.args.format) in
-    (n.first1, n.step)
-
-pub returns-then-row-eq0 : goal.returns-then-row-eq0
-returns-then-row-eq0 c =
-    let a = c.args in
-    let row = c.row_of-row in
-    c.field-one.ensures
-    ∙ one_field row.result a.line.now a.s c.if-row-eq0.true
-    ∙ ap (λ (r : Row). fields_of r a.line.now a.s) row.ensures
-
 pub field-requires : goal.field-requires
 field-requires c =
     let n = subst Few (sym c.row_of-row.ensures) (few c.args.format) in
+    (n.first1, n.step)
+
+pub field-requires-then-row-ne0 : goal.field-requires-then-row-ne0
+field-requires-then-row-ne0 c =
+    let n = subst Few (sym c.row_of-row.ensures) (few c.args.format) in
     (n.first2, n.step)
 
-pub returns-else-row-eq0 : goal.returns-else-row-eq0
-returns-else-row-eq0 c =
+pub returns-else-row-ne0 : goal.returns-else-row-ne0
+returns-else-row-ne0 c =
+    let a = c.args in
+    let row = c.row_of-row in
+    c.field.ensures
+    ∙ one_field row.result a.line.now a.s.now c.if-row-ne0.false
+    ∙ ap (λ (r : Row). fields_of r a.line.now a.s.now) row.ensures
+
+pub returns-then-row-ne0 : goal.returns-then-row-ne0
+returns-then-row-ne0 c =
     let a = c.args in
     let row = c.row_of-row in
     let r : Row = row.result in
-    c.field.ensures
-    ∙ ap (λ (t : Session). field_lines t r.vstart2 r.vstep a.line.now 16) c.field-one.ensures
-    ∙ two_fields r a.line.now a.s c.if-row-eq0.false
-    ∙ ap (λ (q : Row). fields_of q a.line.now a.s) row.ensures
+    c.field-then-row-ne0.ensures
+    ∙ ap (λ (t : Session). field_lines t r.vstart2 r.vstep a.line.now 16) c.field.ensures
+    ∙ two_fields r a.line.now a.s.now c.if-row-ne0.true
+    ∙ ap (λ (q : Row). fields_of q a.line.now a.s.now) row.ensures

@@ -16,8 +16,8 @@ unfolding turns
 loop-i-preserved c =
     let a = c.args in
     let l = c.loop-i in (
-      rw add-one (c.frame_at-t.ensures.0 ∙ ap (frame_of a.load (line_at a.even.now a.odd.now (turn_at (row_of a.load.format) l.i)) a.block.now) l.invariant.0),
-      c.frame_at-t.ensures.1,
+      rw add-one (c.frame_at.ensures.0 ∙ ap (frame_of a.load (line_at a.even.now a.odd.now (turn_at (row_of a.load.format) l.i)) a.block.now) l.invariant.0),
+      c.frame_at.ensures.1,
     )
 
 pub returns : goal.returns

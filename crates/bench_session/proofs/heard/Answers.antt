@@ -13,4 +13,4 @@ unfolding sounds
 loop-k-preserved c =
     let a = c.args in
     let l = c.loop-k in
-    rw add-one (c.each_heard-t.ensures ∙ ap (λ (t : Session). each_heard a.block.now t a.count) l.invariant)
+    rw add-one (c.each_heard.ensures ∙ ap (λ (t : Session). each_heard a.block.now t a.count) l.invariant)

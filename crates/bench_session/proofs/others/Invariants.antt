@@ -4,4 +4,4 @@ use Rattle.bench_session.specs.Frames.{other_lines}
 use Rattle.bench_session.proofs.others.Given as goal
 
 abbrev pub invariant-loop-k : goal.invariant-loop-k
-invariant-loop-k l = l.t ≡ other_lines l.initial.t l.line l._k
+invariant-loop-k l = l.s ≡ other_lines l.initial.s l.line l._k

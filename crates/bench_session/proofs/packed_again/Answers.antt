@@ -13,6 +13,6 @@ unfolding packings
 loop-i-preserved c =
     let p = c.pack in
     let l = c.loop-i in (
-      rw add-one (c.bytes_in-sum.ensures.0 ∙ ap₂ bytes_in l.invariant.0 p.ensures.1),
+      rw add-one (c.bytes_in-sum.ensures.0 ∙ ap₂ bytes_in l.invariant.0 p.ensures.left),
       c.bytes_in-sum.ensures.1,
     )

@@ -31,4 +31,4 @@ loop-i-preserved c =
     let l = j.loop-i in
     let n = length j.args.lines.now in
     let e : j.if-i-lt2.from + n / 2 - j.if-i-lt2.from ≡ n / 2 = omega arith in
-    c.step-a.ensures ∙ rw (add-one, e, l.invariant, from_is (goal.at.loop-i-preserved c).Joined-i-lt2) refl
+    c.step.ensures ∙ rw (add-one, e, l.invariant, from_is (goal.at.loop-i-preserved c).Joined-i-lt2) refl

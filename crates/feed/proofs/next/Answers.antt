@@ -18,13 +18,13 @@ use Rattle.feed.proofs.next.Goals as goal
 pub returns : goal.returns
 unfolding line_next step_line fed_of
 returns c =
-    let f = c.answer_front-a in
+    let f = c.answer_front-answer in
     let s = c.args.s in
     let bytes = c.args.bytes.now in
     let t = front s bytes in
     let said = ap (λ (a : Answered). said_of a.answer f.new.work) f.ensures.0 ∙ ap (said_of t.answered.answer) f.ensures.1 ∙ quiet_said t.answered.answer t.left (quiet s bytes) in
     let q = put_front (put_as said c.say.ensures) (omega (arith, next_fits s bytes)) in (
-      ap {B = Fed Session} (λ (n : ℕ). record { size = n; answer = f.result.answer; after = f.result.after }) q.0
+      ap {B = Fed Session} (λ (n : ℕ). record { size = n; answer = f.result; after = f.new.s }) q.0
           ∙ ap {B = Fed Session} (λ (a : Answered). record { size = length (line_of t.answered.answer t.left); answer = a.answer; after = a.after }) f.ensures.0,
       q.1,
     )

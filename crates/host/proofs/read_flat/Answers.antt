@@ -1,66 +1,51 @@
 -- `host::read_flat` meets its contract.
-use Prim.Native.Nat.{ℕ}
-use mathlib.Core.Path.{◌≡◌, sym, ap, ◌∙◌}
-use mathlib.Core.List.{List}
-use native.Mathlib.Omega.{arith}
-use lib.ListN.{length}
+use Rattle.std.proofs.Common.{ℕ, ◌≡◌, List, Ok, Err, length, arith, rules, sym, ap, ◌∙◌}
 use lib.Seq.{sets}
+use Rattle.laws.specs.Refusals.{number_of}
 use Rattle.laws.proofs.Lists.{sets_over}
 use Rattle.laws.proofs.Calls.{told_refused, told_short, told_ok}
-use Rattle.container.specs.declared.Reading.{Reading}
-use Rattle.container.specs.Reading.{reading}
+use Rattle.laws.proofs.Refusals.{number_positive}
+use Rattle.container.specs.Reading.{Reading, reading, reading_of}
 use Rattle.flat.specs.Flat.{flat}
 use Rattle.host.specs.Host.{flat_of, read_number, read_done, read_out}
 use Rattle.host.proofs.read_flat.Goals as goal
-use Rattle.host.proofs.read_flat.Goals.{After-flatten-flat, After-read_container-r, Else-number-ne0, Start}
+use Rattle.host.proofs.read_flat.Goals.{After-flatten-flat, In_ok-contents}
 
-abbrev lent_at_0 : (c : goal.After-read_container-r) → List ℕ
-lent_at_0 c = c.args.bytes.now
+said : (c : goal.In_ok-contents) → reading_of (Ok c.in_ok-contents.contents) ≡ reading c.args.bytes.now
+said c = rw c.in_ok-contents.was at c.read_container.ensures
 
-number : (c : goal.After-read_container-r) → c.read_container-r.result.number ≡ (reading (lent_at_0 c)).number
-number c = ap (λ (r : Reading). r.number) c.read_container-r.ensures
+accepted : (c : goal.In_ok-contents) → (reading c.args.bytes.now).number ≡ 0
+accepted c = ap (λ (r : Reading). r.number) (sym (said c))
 
-abbrev lent : (c : goal.Start) → List ℕ
-lent c = c.args.bytes.now
-
-abbrev lent_at_2 : (c : goal.Else-number-ne0) → List ℕ
-lent_at_2 c = c.args.bytes.now
-
-number_at_1 : (c : goal.Else-number-ne0) → c.read_container-r.result.number ≡ (reading (lent_at_2 c)).number
-number_at_1 c = ap (λ (r : Reading). r.number) c.read_container-r.ensures
-
-accepted : (c : goal.Else-number-ne0) → (reading (lent_at_2 c)).number ≡ 0
-accepted c = sym (number_at_1 c) ∙ c.if-number-ne0.false
-
-abbrev lent_at_3 : (c : goal.After-flatten-flat) → List ℕ
-lent_at_3 c = c.args.bytes.now
-
-flat_is : (c : goal.After-flatten-flat) → c.flatten-flat.result ≡ flat_of (lent_at_3 c)
+flat_is : (c : goal.After-flatten-flat) → c.flatten-flat.result ≡ flat_of c.args.bytes.now
 unfolding flat_of
-flat_is c = c.flatten-flat.ensures ∙ ap (λ (r : Reading). flat r.contents) c.read_container-r.ensures
+flat_is c = c.flatten-flat.ensures ∙ ap (λ (r : Reading). flat r.contents) (rw c.in_ok-contents.was at c.read_container.ensures)
 
-size : (c : goal.After-flatten-flat) → length (flat_of (lent_at_3 c)) ≡ 283
+size : (c : goal.After-flatten-flat) → length (flat_of c.args.bytes.now) ≡ 283
 size c = ap length (sym (flat_is c)) ∙ c.flatten-flat.type_inv.1.0.1
 
-pub returns-then-number-ne0 : goal.returns-then-number-ne0
+pub returns-in_err-contents : goal.returns-in_err-contents
 unfolding read_done read_number read_out
-returns-then-number-ne0 c =
-    let s = c in
-    let t = told_refused _ (flat_of (lent (goal.at.returns-then-number-ne0 c).Start)) s.args.out.now (λ (e : (reading (lent (goal.at.returns-then-number-ne0 c).Start)).number ≡ 0). c.if-number-ne0.true (number (goal.at.returns-then-number-ne0 c).After-read_container-r ∙ e)) in
-    (ap (λ n. record { number = n; written = 0 }) (number (goal.at.returns-then-number-ne0 c).After-read_container-r) ∙ t.0, t.1)
+returns-in_err-contents c =
+    let why = c.in_err-contents.field-0.0 in
+    let r : c.from_residual.result ≡ Err why = search rules in
+    let n : number_of why ≡ (reading c.args.bytes.now).number = ap (λ (r : Reading). r.number) (rw c.in_err-contents.was at c.read_container.ensures) in
+    rw (r, ← n) (told_refused (number_of why) (flat_of c.args.bytes.now) c.args.out.now (number_positive why))
 
 pub returns-then-out-lt283 : goal.returns-then-out-lt283
 unfolding read_done read_number read_out
 returns-then-out-lt283 c =
-    let s = c in
-    let t = told_short _ (flat_of (lent (goal.at.returns-then-out-lt283 c).Start)) s.args.out.now (accepted (goal.at.returns-then-out-lt283 c).Else-number-ne0) (omega (arith, size (goal.at.returns-then-out-lt283 c).After-flatten-flat, c.if-out-lt283.true)) in
-    t
+    let w = goal.at.returns-then-out-lt283 c in
+    told_short _ (flat_of c.args.bytes.now) c.args.out.now (accepted w.In_ok-contents) (omega (arith, size w.After-flatten-flat, c.if-out-lt283.true))
 
 pub returns : goal.returns
 unfolding read_done read_number read_out
 returns c =
-    let s = c in
-    let f = c in
-    let out : List ℕ = s.args.out.now in
-    let t = told_ok _ (flat_of (lent (goal.at.returns c).Start)) out (accepted (goal.at.returns c).Else-number-ne0) (omega (arith, size (goal.at.returns c).After-flatten-flat, c.if-out-lt283.false)) in
-    (ap (λ n. record { number = 0; written = n }) (sym (size (goal.at.returns c).After-flatten-flat)) ∙ t.0, c.copy_at.ensures ∙ ap (sets out 0) (flat_is (goal.at.returns c).After-flatten-flat) ∙ sets_over (flat_of (lent (goal.at.returns c).Start)) out (omega (arith, size (goal.at.returns c).After-flatten-flat, c.if-out-lt283.false)) ∙ t.1)
+    let w = goal.at.returns c in
+    let bytes : List ℕ = flat_of c.args.bytes.now in
+    let out : List ℕ = c.args.out.now in
+    let n = size w.After-flatten-flat in
+    let t = told_ok _ bytes out (accepted w.In_ok-contents) (omega (arith, n, c.if-out-lt283.false)) in (
+      ap (λ n. record { number = 0; written = n }) (sym n) ∙ t.0,
+      c.copy_at.ensures ∙ ap (sets out 0) (flat_is w.After-flatten-flat) ∙ sets_over bytes out (omega (arith, n, c.if-out-lt283.false)) ∙ t.1,
+    )

@@ -16,13 +16,13 @@ use Rattle.receive_feed.proofs.next.Goals as goal
 pub returns : goal.returns
 unfolding line_next step_line fed_of
 returns c =
-    let f = c.answer_front-a in
+    let f = c.answer_front-answer in
     let r = c.args.r in
     let bytes = c.args.bytes.now in
     let t = front r bytes in
     let said = ap (λ (a : Answered). said_of a.answer f.new.work) f.ensures.0 ∙ ap (said_of t.answered.answer) f.ensures.1 ∙ quiet_said t.answered.answer t.left (quiet r bytes) in
     let q = put_front (put_as said c.say.ensures) (omega (arith, next_fits r bytes)) in (
-      ap {B = Fed Receiver} (λ (n : ℕ). record { size = n; answer = f.result.answer; after = f.result.after }) q.0
+      ap {B = Fed Receiver} (λ (n : ℕ). record { size = n; answer = f.result; after = f.new.r }) q.0
           ∙ ap {B = Fed Receiver} (λ (a : Answered). record { size = length (line_of t.answered.answer t.left); answer = a.answer; after = a.after }) f.ensures.0,
       q.1,
     )

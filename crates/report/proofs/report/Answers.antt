@@ -1,32 +1,31 @@
 -- `report::report` meets its contract.
-use mathlib.Core.Path.{◌≡◌, ap, ◌∙◌}
-use borrow.Author.Tests.{eq-eqb, ne_eqb}
+use mathlib.Core.Path.{◌≡◌, sym, ap, ◌∙◌}
+use borrow.Author.Tests.{ne_eqb}
 use native.Mathlib.Omega.{arith}
+use Rattle.std.proofs.Common.{Err}
+use Rattle.laws.specs.declared.Refusal.{Refusal}
+use Rattle.laws.specs.Refusals.{number_of}
+use Rattle.laws.proofs.Refusals.{number_positive}
+use Rattle.container.specs.Reading.{reading, reading_of}
 use Rattle.text.specs.Lines.{refused_text}
 use Rattle.text.proofs.Pieces.{put_as, put_front}
-use Rattle.report.proofs.Sizes.{reported_size}
-use Rattle.container.specs.declared.Reading.{Reading}
-use Rattle.container.specs.Reading.{reading}
 use Rattle.report.specs.Report.{accepted_text, reported}
+use Rattle.report.proofs.Sizes.{reported_size}
 use Rattle.report.proofs.report.Goals as goal
 
--- the line of an accepted reading, and of a refused one
-ok_line : (r : Reading) → r.number ≡ 0 → accepted_text r.contents ≡ reported r
+refused_line : (why : Refusal) → refused_text (number_of why) ≡ reported (reading_of (Err why))
 unfolding reported
-ok_line r e = rw (eq-eqb r.number 0 e)
+refused_line why = rw (ne_eqb (number_of why) 0 (number_positive why))
 
-bad_line : (r : Reading) → (r.number ≡ 0 → ⊥) → refused_text r.number ≡ reported r
+pub returns-in-Ok : goal.returns-in-Ok
 unfolding reported
-bad_line r e = rw (ne_eqb r.number 0 e)
-
-pub returns-then-number-eq0 : goal.returns-then-number-eq0
-returns-then-number-eq0 c =
-    let r = c.read_container-r.result in
-    let l : accepted_text r.contents ≡ reported (reading c.args.bytes.now) = ok_line r c.if-number-eq0.true ∙ ap reported c.read_container-r.ensures in
+returns-in-Ok c =
+    let read = ap reading_of (sym c.in-Ok.is) ∙ c.read_container.ensures in
+    let l : accepted_text c.in-Ok.contents ≡ reported (reading c.args.bytes.now) = ap reported read in
     put_front (put_as l c.put_accepted.ensures) (omega (arith, reported_size (reading c.args.bytes.now)))
 
-pub returns : goal.returns
-returns c =
-    let r = c.read_container-r.result in
-    let l : refused_text r.number ≡ reported (reading c.args.bytes.now) = bad_line r c.if-number-eq0.false ∙ ap reported c.read_container-r.ensures in
+pub returns-in-Err : goal.returns-in-Err
+returns-in-Err c =
+    let read = ap reading_of (sym c.in-Err.is) ∙ c.read_container.ensures in
+    let l : refused_text c.number.result ≡ reported (reading c.args.bytes.now) = ap refused_text c.number.ensures ∙ refused_line c.in-Err.why ∙ ap reported read in
     put_front (put_as l c.put_refused.ensures) (omega (arith, reported_size (reading c.args.bytes.now)))

@@ -3,10 +3,13 @@ use Prim.Native.Nat.{ℕ, ◌-◌}
 use mathlib.Core.Path.{◌≡◌, sym, ap, ◌∙◌}
 use mathlib.Core.List.{List}
 use native.Mathlib.Omega.{arith}
+use borrow.Author.Rules.{rules}
 use lib.ListN.{length, take, drop}
-use lib.Seq.{sets}
-use Rattle.laws.proofs.Lists.{sets_over}
+use Rattle.std.proofs.Common.{Err}
+use Rattle.laws.specs.Calls.{over}
+use Rattle.laws.specs.Refusals.{number_of}
 use Rattle.laws.proofs.Calls.{told_refused, told_short, told_ok}
+use Rattle.laws.proofs.Refusals.{number_positive}
 use Rattle.laws.proofs.Layers.{own_first, own_passed}
 use Rattle.container.specs.Reading.{reading}
 use Rattle.transport.specs.Reading.{frame_number, container_bytes, inner_number, read_number, read_done, read_out}
@@ -22,49 +25,52 @@ number : (s : List ℕ) (m : ℕ) → frame_number s ≡ 0 → m ≡ (reading (t
 unfolding inner_number
 number s m right e = e ∙ ap (λ (b : List ℕ). (reading b).number) (there s) ∙ sym (own_passed _ _ right)
 
-pub returns-then-frame-ne0 : goal.returns-then-frame-ne0
+pub returns-in_err-check_frame : goal.returns-in_err-check_frame
 unfolding read_done read_out read_number inner_number
-returns-then-frame-ne0 c =
-    let f = c.frame_number-frame in
+returns-in_err-check_frame c =
+    let why = c.in_err-check_frame.field-0.0 in
     let bytes = container_bytes c.args.bytes.now in
-    rw (own_first (frame_number c.args.bytes.now) (reading bytes).number f.result f.ensures c.if-frame-ne0.true) (told_refused f.result bytes c.args.out.now c.if-frame-ne0.true)
+    let r : c.from_residual.result ≡ Err why = search rules in
+    rw (r, own_first (frame_number c.args.bytes.now) (reading bytes).number (number_of why) c.in_err-check_frame.ensures (number_positive why)) (told_refused (number_of why) bytes c.args.out.now (number_positive why))
 
 pub overflow_sub-end : goal.overflow_sub-end
-overflow_sub-end c = omega (arith, (passed _ (sym c.frame_number-frame.ensures ∙ c.if-frame-ne0.false)).ten)
+overflow_sub-end c = omega (arith, (passed _ (sym c.in_ok-check_frame.ensures)).ten)
 
-pub slice_bounds-container_number-count : goal.slice_bounds-container_number-count
-slice_bounds-container_number-count c = omega (arith, (passed _ (sym c.frame_number-frame.ensures ∙ c.if-frame-ne0.false)).ten)
+pub slice_bounds-check_container-count : goal.slice_bounds-check_container-count
+slice_bounds-check_container-count c = omega (arith, (passed _ (sym c.in_ok-check_frame.ensures)).ten)
 
-pub slice_bounds-container_number-start : goal.slice_bounds-container_number-start
-slice_bounds-container_number-start c = omega (arith, (passed _ (sym c.frame_number-frame.ensures ∙ c.if-frame-ne0.false)).ten)
+pub slice_bounds-check_container-start : goal.slice_bounds-check_container-start
+slice_bounds-check_container-start c = omega (arith, (passed _ (sym c.in_ok-check_frame.ensures)).ten)
 
 pub overflow_sub-size : goal.overflow_sub-size
-overflow_sub-size c = omega (arith, (passed _ (sym c.frame_number-frame.ensures ∙ c.if-frame-ne0.false)).ten)
+overflow_sub-size c = omega (arith, (passed _ (sym c.in_ok-check_frame.ensures)).ten)
 
-pub slice_bounds-copy_at-count : goal.slice_bounds-copy_at-count
-slice_bounds-copy_at-count c = omega (arith, (passed _ (sym c.frame_number-frame.ensures ∙ c.if-frame-ne0.false)).ten)
+pub slice_bounds-copy_from_slice-count : goal.slice_bounds-copy_from_slice-count
+slice_bounds-copy_from_slice-count c = omega (arith, (passed _ (sym c.in_ok-check_frame.ensures)).ten)
 
-pub slice_bounds-copy_at-start : goal.slice_bounds-copy_at-start
-slice_bounds-copy_at-start c = omega (arith, (passed _ (sym c.frame_number-frame.ensures ∙ c.if-frame-ne0.false)).ten)
+pub slice_bounds-copy_from_slice-start : goal.slice_bounds-copy_from_slice-start
+slice_bounds-copy_from_slice-start c = omega (arith, (passed _ (sym c.in_ok-check_frame.ensures)).ten)
 
-pub returns-then-number-ne0 : goal.returns-then-number-ne0
+pub returns-in_err-check_container : goal.returns-in_err-check_container
 unfolding read_done read_out read_number
-returns-then-number-ne0 c =
-    let number = number _ _ (sym c.frame_number-frame.ensures ∙ c.if-frame-ne0.false) c.container_number-number.ensures in
-    rw (← number) (told_refused c.container_number-number.result (container_bytes c.args.bytes.now) c.args.out.now c.if-number-ne0.true)
+returns-in_err-check_container c =
+    let why = c.in_err-check_container.field-0.0 in
+    let r : c.from_residual-in_err-check_container.result ≡ Err why = search rules in
+    let number = number _ _ (sym c.in_ok-check_frame.ensures) c.in_err-check_container.ensures in
+    rw (r, ← number) (told_refused (number_of why) (container_bytes c.args.bytes.now) c.args.out.now (number_positive why))
 
 pub returns-then-out-size : goal.returns-then-out-size
 unfolding read_done read_out read_number
 returns-then-out-size c =
-    let number = number _ _ (sym c.frame_number-frame.ensures ∙ c.if-frame-ne0.false) c.container_number-number.ensures in
-    told_short _ (container_bytes c.args.bytes.now) c.args.out.now (sym number ∙ c.if-number-ne0.false) (omega (arith, length_carried c.args.bytes.now, c.if-out-size.true))
+    let number = number _ _ (sym c.in_ok-check_frame.ensures) c.in_ok-check_container.ensures in
+    told_short _ (container_bytes c.args.bytes.now) c.args.out.now (sym number) (omega (arith, length_carried c.args.bytes.now, c.if-out-size.true))
 
 pub returns : goal.returns
-unfolding read_done read_out read_number
+unfolding read_done read_out read_number over
 returns c =
     let bytes = c.args.bytes.now in
     let out = c.args.out.now in
-    let number = number _ _ (sym c.frame_number-frame.ensures ∙ c.if-frame-ne0.false) c.container_number-number.ensures in
+    let number = number _ _ (sym c.in_ok-check_frame.ensures) c.in_ok-check_container.ensures in
     let n : length (container_bytes bytes) ≡ length bytes - 4 - 6 = length_carried bytes ∙ omega arith in
-    let t = told_ok _ (container_bytes bytes) out (sym number ∙ c.if-number-ne0.false) (omega (arith, n, c.if-out-size.false)) in
-    rw (← n) (t.0, c.copy_at.ensures ∙ ap (sets out 0) (there bytes) ∙ sets_over (container_bytes bytes) out (omega (arith, n, c.if-out-size.false)) ∙ t.1)
+    let t = told_ok _ (container_bytes bytes) out (sym number) (omega (arith, n, c.if-out-size.false)) in
+    rw (← n) (t.0, rw (c.copy_from_slice.ensures.after, there bytes) t.1)

@@ -8,21 +8,21 @@ use borrow.Author.Tests.{eq-eqb, ne_eqb}
 use Rattle.session.specs.declared.Session.{Session}
 use Rattle.bench_session.specs.Instants.{instants_heard, all_heard}
 use Rattle.bench_session.proofs.instants.all_heard.Goals as goal
-use Rattle.bench_session.proofs.instants.all_heard.Goals.{then-mix-eq0-via-then-mix-eq0, then-mix-eq0-via-else-mix-eq0+then-count-eq0}
+use Rattle.bench_session.proofs.instants.all_heard.Goals.{else-mix-ne0-via-then-mix-ne0+else-count-ne0, else-mix-ne0-via-else-mix-ne0}
 
 either : (b : Bool) (s : Session) → cond b s s ≡ s
 either true s = refl
 either false s = refl
 
-pub returns-then-mix-eq0 : goal.returns-then-mix-eq0
+pub returns-else-mix-ne0 : goal.returns-else-mix-ne0
 unfolding all_heard instants_heard
-returns-then-mix-eq0 c =
+returns-else-mix-ne0 c =
     let a = c.args in
-    elim c.then-mix-eq0.branch [
-      | then-mix-eq0-via-then-mix-eq0 w ↦ rw (w.if-mix-eq0.true, div-zero (length a.values.now)) (sym (either (eqb a.count 0) a.s))
-      | then-mix-eq0-via-else-mix-eq0+then-count-eq0 w ↦ rw (eq-eqb _ _ w.if-count-eq0.true)
+    elim c.else-mix-ne0.branch [
+      | else-mix-ne0-via-then-mix-ne0+else-count-ne0 w ↦ rw (eq-eqb _ _ w.if-count-ne0.false)
+      | else-mix-ne0-via-else-mix-ne0 w ↦ rw (w.if-mix-ne0.false, div-zero (length a.values.now)) (sym (either (eqb a.count 0) a.s.now))
     ]
 
-pub returns : goal.returns
+pub returns-then-count-ne0 : goal.returns-then-count-ne0
 unfolding all_heard
-returns c = rw (ne_eqb _ _ c.if-count-eq0.false) c.instants_heard.ensures
+returns-then-count-ne0 c = rw (ne_eqb _ _ c.if-count-ne0.true) c.instants_heard.ensures

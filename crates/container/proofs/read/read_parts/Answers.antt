@@ -25,7 +25,7 @@ audio_is : (c : goal.In-Some-read_audio) → audio_in c.args.flags (c.in-Some.i.
 audio_is c = lent_from (audio_part (c.args.flags % 2) (c.args.flags / 16)) c.args.b.now _ _ _ c.read_audio.ensures c.in-Some-read_audio.is
 
 pub returns-in_default : goal.returns-in_default
-returns-in_default c = c.refused.ensures ∙ sym (parts_25 c.args.counter c.args.flags c.args.b.now (sym c.read_id.ensures ∙ c.in_default.is))
+returns-in_default c = sym (parts_25 c.args.counter c.args.flags c.args.b.now (sym c.read_id.ensures ∙ c.in_default.is))
 
 pub slice_bounds-read_video-count : goal.slice_bounds-read_video-count
 slice_bounds-read_video-count c = first_end (goal.at.slice_bounds-read_video-count c).In-Some
@@ -36,8 +36,7 @@ slice_bounds-read_video-start c = omega (arith, first_end (goal.at.slice_bounds-
 pub returns-in_default-read_video : goal.returns-in_default-read_video
 returns-in_default-read_video c =
     let w = goal.at.returns-in_default-read_video c in
-    c.refused-in_default-read_video.ensures
-    ∙ sym (parts_26 c.args.counter c.args.flags c.args.b.now c.in-Some.i (id_is w.In-Some)
+    sym (parts_26 c.args.counter c.args.flags c.args.b.now c.in-Some.i (id_is w.In-Some)
     (lent_from (video_part (c.args.flags / 2 % 2) (c.args.flags / 16)) c.args.b.now c.in-Some.i.used _ _ c.read_video.ensures c.in_default-read_video.is))
 
 pub overflow_add-used : goal.overflow_add-used
@@ -52,8 +51,7 @@ slice_bounds-read_audio-start c = omega (arith, second_end (goal.at.slice_bounds
 pub returns-in_default-read_audio : goal.returns-in_default-read_audio
 returns-in_default-read_audio c =
     let w = goal.at.returns-in_default-read_audio c in
-    c.refused-in_default-read_audio.ensures
-    ∙ sym (parts_27 c.args.counter c.args.flags c.args.b.now c.in-Some.i (id_is w.In-Some) c.in-Some-read_video.v (video_is w.In-Some-read_video)
+    sym (parts_27 c.args.counter c.args.flags c.args.b.now c.in-Some.i (id_is w.In-Some) c.in-Some-read_video.v (video_is w.In-Some-read_video)
     (lent_from (audio_part (c.args.flags % 2) (c.args.flags / 16)) c.args.b.now _ _ _ c.read_audio.ensures c.in_default-read_audio.is))
 
 pub overflow_add-used-2 : goal.overflow_add-used-2
@@ -68,8 +66,7 @@ overflow_add-used-2 c =
 pub returns-then-used-a : goal.returns-then-used-a
 returns-then-used-a c =
     let w = goal.at.returns-then-used-a c in
-    c.refused-then-used-a.ensures
-    ∙ sym (parts_28 c.args.counter c.args.flags c.args.b.now c.in-Some.i (id_is w.In-Some) c.in-Some-read_video.v (video_is w.In-Some-read_video) c.in-Some-read_audio.a (audio_is w.In-Some-read_audio) c.if-used-a.true)
+    sym (parts_28 c.args.counter c.args.flags c.args.b.now c.in-Some.i (id_is w.In-Some) c.in-Some-read_video.v (video_is w.In-Some-read_video) c.in-Some-read_audio.a (audio_is w.In-Some-read_audio) c.if-used-a.true)
 
 pub returns : goal.returns
 returns c =

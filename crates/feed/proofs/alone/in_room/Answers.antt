@@ -1,9 +1,9 @@
 -- `feed::alone::in_room` meets its contract.
-use mathlib.Core.Path.{refl, sym, ◌∙◌}
+use mathlib.Core.Path.{sym, ◌∙◌}
 use native.Mathlib.Omega.{arith}
 use Rattle.laws.proofs.Lists.{tail_part}
 use Rattle.answers.proofs.Rooms.{Roomed, roomed}
-use Rattle.feed.proofs.Steps.{gives_as, room_none, lends}
+use Rattle.feed.proofs.Steps.{lends}
 use Rattle.feed.proofs.alone.in_room.Goals as goal
 use Rattle.feed.proofs.alone.in_room.Goals.{In-Ok}
 
@@ -21,9 +21,6 @@ slice_bounds-lend-end-in-Ok c = (room (goal.at.slice_bounds-lend-end-in-Ok c).In
 
 pub slice_bounds-lend-end-in-Ok-2 : goal.slice_bounds-lend-end-in-Ok-2
 slice_bounds-lend-end-in-Ok-2 c = (room (goal.at.slice_bounds-lend-end-in-Ok-2 c).In-Ok).size
-
-pub returns-in-Err : goal.returns-in-Err
-returns-in-Err c = gives_as _ _ _ _ (room_none c.args.payload.now _ c.args.tag (sym c.room_at.ensures ∙ c.in-Err.is)) (refl, c.requires)
 
 pub returns-in-Ok : goal.returns-in-Ok
 returns-in-Ok c = lends c.args.payload.now _ _ _ _ _ (room (goal.at.returns-in-Ok c).In-Ok).lent c.requires c.args.tag _ (sym c.room_at.ensures ∙ c.in-Ok.is) (tail_part c.args.payload.now 2) c.lend.ensures

@@ -1,10 +1,10 @@
 -- `feed::alone::sample` meets its contract.
-use mathlib.Core.Path.{refl, sym, ◌∙◌}
+use mathlib.Core.Path.{sym, ◌∙◌}
 use native.Mathlib.Omega.{arith}
 use Rattle.records.specs.Records.{byte_at}
 use Rattle.laws.proofs.Lists.{tail_part}
 use Rattle.answers.proofs.Rooms.{Roomed, roomed}
-use Rattle.feed.proofs.Steps.{gives_as, sample_none, samples}
+use Rattle.feed.proofs.Steps.{samples}
 use Rattle.feed.proofs.alone.sample.Goals as goal
 use Rattle.feed.proofs.alone.sample.Goals.{In-Ok}
 
@@ -26,9 +26,9 @@ slice_bounds-sample_line-end-in-Ok c = (room (goal.at.slice_bounds-sample_line-e
 pub slice_bounds-sample_line-end-in-Ok-2 : goal.slice_bounds-sample_line-end-in-Ok-2
 slice_bounds-sample_line-end-in-Ok-2 c = (room (goal.at.slice_bounds-sample_line-end-in-Ok-2 c).In-Ok).size
 
-pub returns-in-Err : goal.returns-in-Err
-returns-in-Err c = gives_as _ _ _ _ (sample_none c.args.payload.now _ (sym c.room_at.ensures ∙ c.in-Err.is)) (refl, c.requires)
-
 pub returns-in-Ok : goal.returns-in-Ok
 unfolding byte_at
-returns-in-Ok c = samples c.args.payload.now _ _ _ _ _ (room (goal.at.returns-in-Ok c).In-Ok).lent c.requires _ (sym c.room_at.ensures ∙ c.in-Ok.is) (tail_part c.args.payload.now 3) c.sample_line-done.ensures.value c.sample_line-done.ensures.out_after
+returns-in-Ok c =
+    let p = c.args.payload.now in
+    let sampled = c.sample_line-sampled in
+    samples p _ _ _ _ _ (room (goal.at.returns-in-Ok c).In-Ok).lent c.requires _ (sym c.room_at.ensures ∙ c.in-Ok.is) (tail_part p 3) (c.from.ensures ∙ sampled.ensures.value) sampled.ensures.out_after

@@ -1,10 +1,11 @@
 -- `feed::calls::pack` meets its contract.
 use mathlib.Core.Path.{sym, ◌∙◌}
 use native.Mathlib.Omega.{arith}
+use Rattle.session.specs.Packing as session
 use Rattle.feed.specs.Calls.{done_of, packed}
 use Rattle.laws.proofs.Lists.{tail_part}
 use Rattle.answers.proofs.Rooms.{Roomed, roomed}
-use Rattle.feed.proofs.Steps.{does_as, pack_none, packs}
+use Rattle.feed.proofs.Steps.{packs}
 use Rattle.feed.proofs.calls.pack.Goals as goal
 use Rattle.feed.proofs.calls.pack.Goals.{In-Ok}
 
@@ -23,9 +24,9 @@ slice_bounds-pack-end-in-Ok c = (room (goal.at.slice_bounds-pack-end-in-Ok c).In
 pub slice_bounds-pack-end-in-Ok-2 : goal.slice_bounds-pack-end-in-Ok-2
 slice_bounds-pack-end-in-Ok-2 c = (room (goal.at.slice_bounds-pack-end-in-Ok-2 c).In-Ok).size
 
-pub returns-in-Err : goal.returns-in-Err
-returns-in-Err c = does_as _ _ _ _ (pack_none c.args.payload.now _ c.args.s (sym c.room_at.ensures ∙ c.in-Err.is)) (c.bad.ensures, c.requires)
-
 pub returns-in-Ok : goal.returns-in-Ok
 unfolding packed done_of
-returns-in-Ok c = packs c.args.payload.now _ _ _ _ _ (room (goal.at.returns-in-Ok c).In-Ok).lent c.requires c.args.s c.pack-p.result (sym c.room_at.ensures ∙ c.in-Ok.is) (tail_part c.args.payload.now 2) c.pack-p.ensures.0 c.pack-p.ensures.1
+returns-in-Ok c =
+    let a = c.args in
+    let p = c.pack-packed in
+    rw c.from.ensures (packs a.payload.now _ _ _ _ _ (room (goal.at.returns-in-Ok c).In-Ok).lent c.requires a.s.now (session.packed p.result p.new.self) (sym c.room_at.ensures ∙ c.in-Ok.is) (tail_part a.payload.now 2) p.ensures.answer p.ensures.left)

@@ -17,7 +17,3 @@ returns-then-bits-gt2139095040 c = zero_by_zero ∙ nan_above c.bits_at-bits.res
 
 pub float_from_bits-result : goal.float_from_bits-result
 float_from_bits-result c = none_below c.bits_at-bits.result (omega (arith, c.if-bits-gt2139095040.false))
-
-pub returns : goal.returns
-unfolding float_at
-returns c = ap (of_bits binary32) c.bits_at-bits.ensures

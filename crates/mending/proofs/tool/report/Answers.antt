@@ -1,20 +1,17 @@
 -- `mending::tool::report` meets its contract.
-use Prim.Native.Nat.{ℕ, ◌≤◌}
-use mathlib.Core.Path.{◌≡◌}
-use mathlib.Core.List.{List}
-use native.Mathlib.Omega.{arith}
+use Rattle.std.proofs.Common.{ℕ, ◌≡◌, ◌≤◌, List, length, arith, sym, ◌∙◌}
 use borrow.Author.Tests.{eq-eqb, ne_eqb}
-use lib.ListN.{length}
 use lib.Seq.{sets}
 use Rattle.laws.specs.Bytes.{Bytes}
+use Rattle.laws.specs.Refusals.{number_of}
+use Rattle.laws.proofs.Refusals.{number_positive}
 use Rattle.text.specs.Lines.{Put, refused_text}
 use Rattle.text.proofs.Pieces.{put_as, put_front}
 use Rattle.mending.specs.Mending.{recording_number}
 use Rattle.mending.specs.Report.{mended_text, reported}
-use Rattle.mending.proofs.Gaps.{gap_within}
-use Rattle.mending.proofs.Numbers.{too_long, no_field, a_field}
 use Rattle.mending.proofs.Sizes.{reported_size}
 use Rattle.mending.proofs.tool.report.Goals as goal
+use Rattle.mending.proofs.tool.report.Goals.{After-number, After-put_report}
 
 -- the lines of a recording that is refused, and of one that is not
 refused_line : (s : List ℕ) (n : ℕ) → recording_number s ≡ n → (n ≡ 0 → ⊥) → refused_text n ≡ reported s
@@ -33,42 +30,27 @@ told s b e p =
     let f = put_front (put_as e p) (omega (arith, z)) in
     (f, omega (arith, f.0, z))
 
-pub returns-then-recording-gt65536-clause-value : goal.returns-then-recording-gt65536-clause-value
-returns-then-recording-gt65536-clause-value c =
-    let s = c.args.recording.now in
-    let w = refused_line s 51 (too_long s c.if-recording-gt65536.true) (λ z. omega (arith, z)) in
-    (told s (λ k. omega (arith, c.type_inv.recording k)) w c.put_refused.ensures).0
+-- by the answer of `first_field`
+found : (c : goal.After-put_report) → mended_text c.args.recording.now ≡ reported c.args.recording.now
+found c = mended_lines c.args.recording.now (sym (rw c.in-Ok.is at c.first_field.ensures.number))
 
-pub returns-then-recording-gt65536-clause-upper_bound : goal.returns-then-recording-gt65536-clause-upper_bound
-returns-then-recording-gt65536-clause-upper_bound c =
-    let s = c.args.recording.now in
-    let w = refused_line s 51 (too_long s c.if-recording-gt65536.true) (λ z. omega (arith, z)) in
-    (told s (λ k. omega (arith, c.type_inv.recording k)) w c.put_refused.ensures).1
+refused : (c : goal.After-number) → refused_text c.number.result ≡ reported c.args.recording.now
+refused c =
+    let n : number_of c.in-Err.why ≡ recording_number c.args.recording.now = (rw c.in-Err.is at c.first_field.ensures.number) in
+    refused_line c.args.recording.now c.number.result (sym n ∙ sym c.number.ensures) (λ z. number_positive c.in-Err.why (sym c.number.ensures ∙ z))
 
-pub returns-then-first-recording-clause-value : goal.returns-then-first-recording-clause-value
-returns-then-first-recording-clause-value c =
-    let s = c.args.recording.now in
-    let e = c.next_field-first.ensures in
-    let w = refused_line s 50 (no_field s c.if-recording-gt65536.false (omega (arith, e, c.if-first-recording.true))) (λ z. omega (arith, z)) in
-    (told s (λ k. omega (arith, c.type_inv.recording k)) w c.put_refused-then-first-recording.ensures).0
+pub returns-in-Ok-clause-value : goal.returns-in-Ok-clause-value
+returns-in-Ok-clause-value c =
+    (told c.args.recording.now (λ k. omega (arith, c.type_inv.recording k)) (found (goal.at.returns-in-Ok-clause-value c).After-put_report) c.put_report.ensures).0
 
-pub returns-then-first-recording-clause-upper_bound : goal.returns-then-first-recording-clause-upper_bound
-returns-then-first-recording-clause-upper_bound c =
-    let s = c.args.recording.now in
-    let e = c.next_field-first.ensures in
-    let w = refused_line s 50 (no_field s c.if-recording-gt65536.false (omega (arith, e, c.if-first-recording.true))) (λ z. omega (arith, z)) in
-    (told s (λ k. omega (arith, c.type_inv.recording k)) w c.put_refused-then-first-recording.ensures).1
+pub returns-in-Ok-clause-upper_bound : goal.returns-in-Ok-clause-upper_bound
+returns-in-Ok-clause-upper_bound c =
+    (told c.args.recording.now (λ k. omega (arith, c.type_inv.recording k)) (found (goal.at.returns-in-Ok-clause-upper_bound c).After-put_report) c.put_report.ensures).1
 
-pub returns-clause-value : goal.returns-clause-value
-returns-clause-value c =
-    let s = c.args.recording.now in
-    let e = c.next_field-first.ensures in
-    let w = mended_lines s (a_field s c.if-recording-gt65536.false (omega (arith, e, c.if-first-recording.false, gap_within s))) in
-    (told s (λ k. omega (arith, c.type_inv.recording k)) w c.put_report.ensures).0
+pub returns-in-Err-clause-value : goal.returns-in-Err-clause-value
+returns-in-Err-clause-value c =
+    (told c.args.recording.now (λ k. omega (arith, c.type_inv.recording k)) (refused (goal.at.returns-in-Err-clause-value c).After-number) c.put_refused.ensures).0
 
-pub returns-clause-upper_bound : goal.returns-clause-upper_bound
-returns-clause-upper_bound c =
-    let s = c.args.recording.now in
-    let e = c.next_field-first.ensures in
-    let w = mended_lines s (a_field s c.if-recording-gt65536.false (omega (arith, e, c.if-first-recording.false, gap_within s))) in
-    (told s (λ k. omega (arith, c.type_inv.recording k)) w c.put_report.ensures).1
+pub returns-in-Err-clause-upper_bound : goal.returns-in-Err-clause-upper_bound
+returns-in-Err-clause-upper_bound c =
+    (told c.args.recording.now (λ k. omega (arith, c.type_inv.recording k)) (refused (goal.at.returns-in-Err-clause-upper_bound c).After-number) c.put_refused.ensures).1

@@ -5,8 +5,7 @@ use mathlib.Core.Bool.{Bool}
 use mathlib.Core.List.{List}
 use lib.Dec.{eqb}
 use lib.ListN.{length}
-use Rattle.picture.specs.declared.Handed.{Handed}
-use Rattle.picture.specs.Pictures.{handed_out}
+use Rattle.picture.specs.Pictures.{Handed, handed_with, handed_out}
 use Rattle.session.specs.declared.Session.{Session}
 use Rattle.session.specs.declared.fingerprints.Parts.{Parts}
 use Rattle.session.specs.declared.packing.Packing.{Packing}
@@ -43,5 +42,5 @@ unfolding due_of
 returns c =
     let s = c.args.s in
     let id : List ℕ = c.args.id.now in
-    made s id _ _ _ _ _ _ _ _ c.bytes_due-due.ensures (c.all_hold-audio.ensures ∙ hold_all _ _ _) c.spoken-count.ensures c.say_all-parts.ensures
-    c.hand_out-h.ensures.0 c.id_bytes-bytes.ensures c.counter_after.ensures c.place_after.ensures
+    made s id _ _ _ _ (handed_with c.hand_out-shown.result c.hand_out-shown.new.self) _ _ _ c.bytes_due-due.ensures (c.all_hold-audio.ensures ∙ hold_all _ _ _) c.spoken-count.ensures c.say_all-parts.ensures
+    c.hand_out-shown.ensures.frame c.id_bytes-bytes.ensures c.counter_after.ensures c.place_after.ensures
