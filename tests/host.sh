@@ -10,6 +10,12 @@ mkdir -p "$build"
 tools/library > "$build/log"
 flags="-std=c11 -O1 -g -Wall -Wextra -Werror -I include"
 archive=target/lib/liblipsync.a
+# A host without a C library has to bring what the archive needs from outside: memcpy, and nothing more.
+needs=$(nm -u "$archive" | sed -n 's/^ *U //p' | sort -u)
+if [ "$needs" != memcpy ]; then
+  echo "host: the archive needs from outside:" $needs >&2
+  exit 1
+fi
 gcc $flags tests/host.c "$archive" -o "$build/plain"
 plain=$("$build/plain")
 gcc $flags -fsanitize=address,undefined -fno-sanitize-recover=all tests/host.c "$archive" -o "$build/sanitized"

@@ -8,6 +8,7 @@ use Rattle.container.specs.Reading.{Reading, reading_of}
 use Rattle.container.proofs.blank_print.Reads as blank_print_reads
 use Rattle.container.proofs.empty_contents.Reads as empty_contents_reads
 use Rattle.container.proofs.read_container.Reads as read_container_reads
+use Rattle.container.proofs.contents_or_empty.Reads as contents_or_empty_reads
 use Rattle.container.proofs.check_container.Reads as check_container_reads
 use Rattle.container.proofs.write_container.Reads as write_container_reads
 
@@ -25,6 +26,9 @@ empty_contents_unique κs a r r' s s' p q = one_value p q
 
 pub read_container_unique : OneResult read_container_reads.Post
 read_container_unique κs a r r' s s' p q = one_reading _ _ (one_value p q)
+
+pub contents_or_empty_unique : OneResult contents_or_empty_reads.Post
+contents_or_empty_unique κs a r r' s s' p q = one_value p q
 
 pub check_container_unique : OneResult check_container_reads.Post
 check_container_unique κs a r r' s s' p q = one_check p q

@@ -73,7 +73,7 @@ pub fn blank_print() -> Print
     }
 }
 
-// "a refused reading's contents are all zero, with no video".
+// Contents that are all zero, with no video.
 pub fn empty_contents() -> Contents
     ensures { result ≡ empty_contents }
 {
@@ -113,6 +113,17 @@ pub fn read_container(bytes: &[u8]) -> Result<Contents, Refusal>
     read::check_header(bytes)?;
     let end = bytes.len() - 1;
     read::read_parts(bytes[1], bytes[3], &bytes[4..end])
+}
+
+// What a reading says: "a refused reading's contents are all zero, with no video".
+#[tactic(auto, unfolding(crate::specs::Contents::empty_contents))]
+pub fn contents_or_empty(answer: Result<Contents, Refusal>) -> Contents
+    ensures { result ≡ (reading_of answer).contents }
+{
+    match answer {
+        Ok(contents) => contents,
+        Err(_) => empty_contents(),
+    }
 }
 
 // What Read container refuses alone: 20 to 28.

@@ -42,7 +42,8 @@ pub fn flatten(c: Contents) -> [u8; 283]
     ensures { result ≡ flat c }
 {
     let mut out = [0u8; 283];
-    laws::copy_at(&[c.counter, c.rate, u8::from(c.hasid)], &mut out, 0);
+    let head = [c.counter, c.rate, laws::flag(c.hasid)];
+    laws::copy_at(&head, &mut out, 0);
     laws::copy_at(&c.id, &mut out, 3);
     laws::copy_at(&video_bytes(c.video), &mut out, 23);
     out[26] = c.count;

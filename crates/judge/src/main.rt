@@ -2,7 +2,7 @@
 #![tactic(auto)]
 
 ghost use Rattle.std.specs.Prelude.{◌≡◌, ◌≤◌, length};
-ghost use Rattle.judging.specs.Report.{Within, told};
+ghost use Rattle.judging.specs.Report.{Within};
 
 use judging::report::Report;
 use std::alloc::{AllocError, Global};
@@ -18,13 +18,13 @@ const NO_TEXT: i32 = 84;
 
 // Judges field after field until the file ends or is refused, which it is at the 501st.
 fn judge_fields(fd: i32, bytes: &mut [u8], lines: &mut [u8]) -> Report
-    ensures { Within (told result) }
+    ensures { Within result }
 {
     let mut report = judging::report::open();
     for _ in 0..501 {
         let read = intake::read_record_from(fd, bytes);
         report = judging::report::field(report, &bytes[..read], lines);
-        if read == 0 || report.verdict.is_err() {
+        if read == 0 || report.number != 0 {
             return report;
         }
     }

@@ -1,34 +1,22 @@
 -- What each call on a report leaves, by the tests that led to it.
 use Prim.Native.Nat.{ℕ, ◌+◌, ◌≤◌, ◌<◌}
-use mathlib.Core.Path.{◌≡◌, refl, sym, ap}
-use mathlib.Core.Bool.{true, false, false≢true}
+use mathlib.Core.Path.{◌≡◌, refl, ap}
+use mathlib.Core.Bool.{true, false}
 use mathlib.Core.List.{List}
 use native.Mathlib.Omega.{arith}
 use borrow.Author.Tests.{lt-ltb, le-ltb, eq-eqb, ne_eqb, ltb-true, leb-true}
 use lib.ListN.{length, length-append}
 use lib.Seq.{sets}
 use lib.Dec.{leb, ltb, eqb}
-use Rattle.std.proofs.Common.{Result, Ok, Err, is_err}
-use Rattle.laws.specs.declared.Refusal.{Refusal}
-use Rattle.laws.specs.Refusals.{number_in}
-use Rattle.laws.proofs.Refusals.{number_positive}
 use Rattle.laws.proofs.Tests.{past}
 use Rattle.records.specs.Records.{byte_at}
 use Rattle.text.specs.Lines.{item, newline, refused, refused_text, Put}
 use Rattle.text.proofs.Pieces.{place_plain, put_as, put_front}
 use Rattle.text.proofs.Spelled.{refused_size}
+use Rattle.judging.specs.declared.report.Report.{Report}
 use Rattle.judging.specs.Lines.{clean}
-use Rattle.judging.specs.Report.{Report, field_size, field_number, is_past, judged, lines_of, gone_on, refused_at, field_of, field_out, closed_number, closed_text, closed_size, Within}
+use Rattle.judging.specs.Report.{field_size, field_number, is_past, judged, lines_of, gone_on, refused_at, field_of, field_out, closed_number, closed_text, closed_size, Within}
 use Rattle.judging.proofs.Sizes.{faults_size}
-
--- a verdict that refuses has a number, and one that does not has none
-pub was_err : (x : Result Unit Refusal) → is_err x ≡ true → number_in x ≡ 0 → ⊥
-was_err (Ok a) e = absurd (false≢true e)
-was_err (Err why) e = number_positive why
-
-pub not_err : (x : Result Unit Refusal) → is_err x ≡ false → number_in x ≡ 0
-not_err (Ok a) e = refl
-not_err (Err why) e = absurd (false≢true (sym e))
 
 -- ---- a field
 

@@ -4,10 +4,8 @@ use Rattle.std.proofs.lemmas.List.Edits.{sets}
 use Rattle.laws.specs.Calls.{unless}
 use Rattle.records.specs.Records.{byte_at, pair_at}
 use Rattle.text.specs.Lines.{place_past, refused_text}
-use Rattle.laws.specs.Refusals.{number_in}
-use Rattle.judging.specs.declared.Known.{Known}
 use Rattle.judging.specs.declared.Judged.{Judged}
-use Rattle.judging.specs.declared.report.Report as report
+use Rattle.judging.specs.declared.report.Report.{Report}
 use Rattle.judging.specs.Judge.{nothing_known, judged_of}
 use Rattle.judging.specs.Lines.{clean, faults_text}
 
@@ -26,17 +24,6 @@ field_number k f =
 -- its packet
 unfoldable pub packet_in : List ℕ → List ℕ
 packet_in f = take (pair_at f 1) (drop 3 f)
-
--- what a report tells: 02's number, by which the file is refused, or 0; what is known of the packets; how many there are; and how many bytes their lines have
-pub record Report : Type 0 where
-  pub number : ℕ
-  pub known : Known
-  pub packets : ℕ
-  pub size : ℕ
-
--- the same of a report with its verdict
-abbrev pub told : report.Report → Report
-told r = record { number = number_in r.verdict; known = r.known; packets = r.packets; size = r.size }
 
 unfoldable pub fresh_report : Report
 fresh_report = record { number = 0; known = nothing_known; packets = 0; size = 0 }

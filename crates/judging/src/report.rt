@@ -4,15 +4,15 @@ ghost use Rattle.std.proofs.lemmas.List.Edits.{sets};
 ghost use Rattle.text.specs.Lines.{Put};
 ghost use Rattle.judging.specs.Lines.{fault_text, refusal_text, faults_text};
 ghost use Rattle.laws.specs.Refusals.{number_in};
-ghost use Rattle.judging.specs.Report.{Within, told, fresh_report, field_number, field_of, field_out, closed_size, closed_text};
+ghost use Rattle.judging.specs.Report.{Within, fresh_report, field_number, field_of, field_out, closed_size, closed_text};
 
 use crate::{Faults, Known};
 use laws::Refusal;
 
-// The packets judged, how many there are, what refuses the file, if anything does, and how many bytes the lines so far have.
+// The packets judged, how many there are, the number that refuses the file or 0, and how many bytes the lines so far have.
 #[derive(Clone, Copy)]
 pub struct Report {
-    pub verdict: Result<(), Refusal>,
+    pub number: u8,
     known: Known,
     packets: u16,
     size: usize,
@@ -20,10 +20,10 @@ pub struct Report {
 
 // A report of no field.
 pub fn open() -> Report
-    ensures { (told result ≡ fresh_report) × Within (told result) }
+    ensures { (result ≡ fresh_report) × Within result }
 {
     Report {
-        verdict: Ok(()),
+        number: 0,
         known: crate::fresh(),
         packets: 0,
         size: 0,
@@ -81,22 +81,24 @@ fn put_faults(packet: u64, faults: Faults, out: &mut [u8], at: usize) -> usize
 
 // The next field, or as much of it as the file has: its lines are put behind those before. Nothing changes where the file is refused already, and by no byte.
 pub fn field(r: Report, bytes: &[u8], out: &mut [u8]) -> Report
-    ensures value { (told result ≡ field_of (told r) bytes.now) × (out.new ≡ field_out (told r) bytes.now out.old) }
-    ensures within { Within (told r) → Within (told result) }
+    ensures value { (result ≡ field_of r bytes.now) × (out.new ≡ field_out r bytes.now out.old) }
+    ensures within { Within r → Within result }
 {
-    if r.verdict.is_err() || bytes.is_empty() {
+    if r.number != 0 || bytes.is_empty() {
         return r;
     }
-    let verdict = check_field(r.packets, bytes);
-    if verdict.is_err() {
-        return Report { verdict, ..r };
+    if let Err(why) = check_field(r.packets, bytes) {
+        return Report {
+            number: why.number(),
+            ..r
+        };
     }
     let end = 3 + records::pair_at(bytes, 1);
     let judged = crate::judge(r.known, &bytes[3..end]);
     let packets = r.packets + 1;
     let size = put_faults(packets as u64, judged.faults, out, r.size);
     Report {
-        verdict,
+        number: 0,
         known: judged.known,
         packets,
         size,
@@ -105,11 +107,11 @@ pub fn field(r: Report, bytes: &[u8], out: &mut [u8]) -> Report
 
 // The end of the file: the whole report stands at the front of out; the answer is how many bytes it has, 500 packets with 71 at most each.
 pub fn close(r: Report, out: &mut [u8]) -> usize
-    ensures value { (result ≡ closed_size (told r)) × (out.new ≡ sets out.old 0 (closed_text (told r))) }
-    ensures upper_bound { Within (told r) → result ≤ 35500 }
+    ensures value { (result ≡ closed_size r) × (out.new ≡ sets out.old 0 (closed_text r)) }
+    ensures upper_bound { Within r → result ≤ 35500 }
 {
-    if let Err(why) = r.verdict {
-        return text::put_refused(why.number(), out);
+    if r.number != 0 {
+        return text::put_refused(r.number, out);
     }
     if r.packets == 0 {
         return text::put_refused(Refusal::FileCut.number(), out);

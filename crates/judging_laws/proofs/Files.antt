@@ -14,8 +14,9 @@ use Rattle.text.specs.Lines.{place_past, item, newline, refused, refused_text}
 use Rattle.text.proofs.Pieces.{place_plain}
 use Rattle.text.proofs.Spelled.{refused_size}
 use Rattle.judging.specs.declared.Faults.{Faults}
+use Rattle.judging.specs.declared.report.Report.{Report}
 use Rattle.judging.specs.Lines.{packet, counter, rate, count, cadence, clean, fault_text, refusal_text, faults_text}
-use Rattle.judging.specs.Report.{Report, field_size, field_number, packet_in, fresh_report, judged, lines_of, refused_at, field_of, field_out, closed_number, closed_text, closed_size, Within}
+use Rattle.judging.specs.Report.{field_size, field_number, packet_in, fresh_report, judged, lines_of, refused_at, field_of, field_out, closed_number, closed_text, closed_size, Within}
 use Rattle.judging.proofs.Sizes.{faults_size}
 use Rattle.judging.proofs.Reports.{refused_before, refused_here, judged_here, whole_field, was_refused, was_empty}
 use Rattle.judging_laws.specs.Faults.{accepted_of, faults_of, is_faultless, is_clean, lines, report_of}

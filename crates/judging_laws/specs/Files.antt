@@ -3,7 +3,8 @@ use Rattle.std.specs.Prelude.{ℕ, zero, suc, ◌-◌, ◌/◌, ◌%◌, ◌<◌
 use Rattle.std.proofs.lemmas.List.Edits.{sets}
 use Rattle.text.specs.Lines.{refused_text}
 use Rattle.packet_laws.specs.Handed.{wrapped}
-use Rattle.judging.specs.Report.{Report, field_size, field_number, packet_in, fresh_report, field_of, field_out, closed_text, closed_size}
+use Rattle.judging.specs.declared.report.Report.{Report}
+use Rattle.judging.specs.Report.{field_size, field_number, packet_in, fresh_report, field_of, field_out, closed_text, closed_size}
 use Rattle.judging_laws.specs.Faults.{report_of}
 
 -- the fields, the last of which may be cut, where so many bytes are still to be passed over

@@ -1,4 +1,4 @@
-// What several crates share: why a call is refused, an answer as it is told, what is said of video, the copying of bytes.
+// What several crates share: why a call is refused, an answer as it is told, what is said of video, the copying of bytes, a flag as a number.
 #![tactic(auto)]
 
 ghost use Rattle.std.specs.Prelude.{◌≡◌, cond, ◌≤◌};
@@ -118,11 +118,11 @@ impl Refusal {
     }
 }
 
-// An answer as the C interface and a feed's line tell it.
-impl From<Result<usize, Refusal>> for Done {
-    ghost from_gives = { λ answer done. done ≡ done_of answer };
-
-    fn from(answer: Result<usize, Refusal>) -> Done {
+impl Done {
+    // An answer as the C interface and a feed's line tell it.
+    pub fn of(answer: Result<usize, Refusal>) -> Done
+        ensures { result ≡ done_of answer }
+    {
         match answer {
             Ok(written) => Done { number: 0, written },
             Err(why) => Done {
@@ -130,6 +130,14 @@ impl From<Result<usize, Refusal>> for Done {
                 written: 0,
             },
         }
+    }
+}
+
+impl From<Result<usize, Refusal>> for Done {
+    ghost from_gives = { λ answer done. done ≡ done_of answer };
+
+    fn from(answer: Result<usize, Refusal>) -> Done {
+        Done::of(answer)
     }
 }
 
@@ -147,4 +155,11 @@ pub fn copy_at(src: &[u8], out: &mut [u8], at: usize)
         }
         out[at + i] = byte;
     }
+}
+
+// Present is 1, absent 0.
+pub fn flag(on: bool) -> u8
+    ensures { (result ≡ cond on 1 0) × (result ≤ 1) }
+{
+    u8::from(on)
 }

@@ -2,7 +2,7 @@
 use Prim.Native.Nat.{ℕ, zero, suc, ◌+◌, ◌*◌, ◌/◌, ◌%◌, ◌≤◌, ◌<◌}
 use mathlib.Core.Path.{◌≡◌, refl, sym, ap, ap₂, ◌∙◌}
 use mathlib.Core.List.{List, [], ◌∷◌, ◌++◌, map}
-use mathlib.Core.Bool.{Bool, ◌&&◌}
+use mathlib.Core.Bool.{Bool, true, false, ◌&&◌}
 use native.Mathlib.Omega.{arith}
 use native.Mathlib.Numerals.{add-one}
 use lib.ListN.{length, get_or, take, drop, set, length-append, length-map, drop_of_length-le}
@@ -80,6 +80,19 @@ every_from test ws a (suc n) e =
 
 pub every_place : (test : ℕ → Bool) (ws : List ℕ) (n : ℕ) → n ≡ length ws → list_all (λ (i : ℕ). test (get_or ws i 0)) (range_with_len 0 n) ≡ every test ws
 every_place test ws n e = every_from test ws 0 n (omega arith)
+
+module _ (test : ℕ → Bool) (ws : List ℕ) (i : ℕ) where
+  pub every_next : i < length ws → test (get_or ws i 0) ≡ true → every test (drop i ws) ≡ every test (drop (i + 1) ws)
+  unfolding every
+  every_next h e = rw (add-one, drop-cons ws i 0 h, e)
+
+  pub every_fails : i < length ws → test (get_or ws i 0) ≡ false → every test (drop i ws) ≡ false
+  unfolding every
+  every_fails h e = rw (drop-cons ws i 0 h, e)
+
+  pub every_end : length ws ≤ i → every test (drop i ws) ≡ true
+  unfolding every
+  every_end h = rw (drop_of_length-le ws h)
 
 module _ (ws : List ℕ) (i : ℕ) where
   pub sum9_next : i < length ws → sum9 (drop i ws) ≡ get_or ws i 0 % 512 + sum9 (drop (i + 1) ws)

@@ -21,11 +21,16 @@ fn parity_right(w: u16) -> bool
     w == word_of((w % 256) as u8)
 }
 
-// Whether every word's bits 8 and 9 are right.
+// Whether every word's bits 8 and 9 are right. A `for` is compiled to eight words a turn; `all`, as in `ten_bits`, took one, and three times the instructions.
 fn parities_right(words: &[u8]) -> bool
     ensures { result ≡ every parity_right (words_of words.now) }
 {
-    (0..words.len() / 2).all(|i| parity_right(word_at(words, i)))
+    for i in 0..words.len() / 2 {
+        if !parity_right(word_at(words, i)) {
+            return false;
+        }
+    }
+    true
 }
 
 fn start_right(words: &[u8]) -> bool

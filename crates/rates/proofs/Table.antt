@@ -1,22 +1,20 @@
 -- Laws of the cadences: the rows as the code holds them, and one test over the whole table.
 use Prim.Native.Nat.{ℕ, zero, suc, ◌+◌, ◌-◌, ◌%◌, ◌≤◌, ◌<◌}
 use mathlib.Core.Path.{◌≡◌, refl, sym, ap, subst, ◌∙◌}
-use mathlib.Core.Bool.{Bool, true, cond, ◌&&◌}
+use mathlib.Core.Bool.{Bool, true, false, cond, ◌&&◌, beq, false≢true, and-false}
 use mathlib.Core.Logic.{◌↔◌}
 use mathlib.Core.List.{List, [], ◌∷◌}
 use native.Mathlib.Omega.{arith}
 use native.Mathlib.Nat.{le_of_suc-le-suc, not-suc-le-zero, mod-lt, mod-eq_of_lt, mod_self, mod-add-mod}
 use native.Mathlib.Decide.{dec_lt}
-use lib.Dec.{leb, ltb, eqb}
-use lib.ListN.{length, get_or, drop}
+use lib.Dec.{leb, ltb}
+use lib.ListN.{length, get_or, drop, get_or-eq_default}
 use lib.Seq.{get_or-drop}
-use borrow.Author.Tests.{leb-true, lt-ltb, le-ltb}
-use Rattle.std.specs.List.{list_any}
-use Rattle.std.proofs.lemmas.Bool.Decides.{nat_tests}
+use borrow.Author.Tests.{leb-true, lt-ltb, le-ltb, lt-leb}
 use Rattle.laws.proofs.Lists.{stands_in}
 use Rattle.laws.proofs.Tests.{both, below, at_below}
 use Rattle.rates.specs.Rates.{rate_listed}
-use Rattle.rates.specs.Cadence.{cadences, cadence, count_occurs, frames, from, place_after}
+use Rattle.rates.specs.Cadence.{cadences, cadence, count_occurs, frames, from, place_after, fewest, most}
 use Rattle.laws.specs.Lists.{is_one_of, StandsIn}
 
 -- one test: each entry is 1 to 5, no row is longer than 40, and from code 2 on none is empty
@@ -114,11 +112,54 @@ occurs_1_to_5 code count e =
     let s = (occurs_is code count).0 e in
     subst (λ (n : ℕ). (1 ≤ n) × (n ≤ 5)) s.there (due_1_to_5 code s.place s.within)
 
-same_equal : (x n : ℕ) → eqb x n ≡ eqb n x
-same_equal x n = grind (arith, nat_tests)
+-- whether a count lies between a row's ends
+unfoldable pub between : ℕ → ℕ → Bool
+between code count = leb (get_or fewest code 1) count && leb count (get_or most code 0)
 
--- what `contains` tells
-pub one_of_any : (n : ℕ) (l : List ℕ) → list_any (λ x. eqb x n) l ≡ is_one_of n l
-unfolding is_one_of
-one_of_any n [] = refl
-one_of_any n (x ∷ l) = rw (same_equal x n, one_of_any n l)
+-- one test: of 0 to 5 a row has just the counts from its fewest to its most, and its most is at most 5
+abbrev ends_right : ℕ → Bool
+ends_right code = leb (get_or most code 0) 5 && below (λ n. beq (count_occurs code n) (between code n)) 6
+
+all_right : below ends_right 12 ≡ true
+unfolding below count_occurs cadence cadences frames from is_one_of between fewest most
+all_right = refl
+
+beq_true : (s t : Bool) → beq s t ≡ true → s ≡ t
+beq_true true true e = refl
+beq_true true false e = absurd (false≢true e)
+beq_true false true e = absurd (false≢true e)
+beq_true false false e = refl
+
+-- above 5 neither the row nor its ends have a count
+none_above : (code count : ℕ) → leb (get_or most code 0) 5 ≡ true → 5 < count → count_occurs code count ≡ between code count
+unfolding between
+none_above code count e h = go (count_occurs code count) refl
+  where
+    go : (t : Bool) → count_occurs code count ≡ t → count_occurs code count ≡ between code count
+    go true q = absurd (let z : ⊥ = omega (arith, (occurs_1_to_5 code count q).1) in z)
+    go false q = q ∙ rw (lt-leb count (get_or most code 0) (omega (arith, leb-true (get_or most code 0) 5 e))) (sym (and-false (leb (get_or fewest code 1) count)))
+
+at_row : (code count : ℕ) → code < 12 → count_occurs code count ≡ between code count
+at_row code count h =
+    let e = both (leb (get_or most code 0) 5) _ (at_below ends_right 12 code all_right h) in
+    go (dec_lt count 6) e
+  where
+    go : Dec (count < 6) → (leb (get_or most code 0) 5 ≡ true) × (below (λ n. beq (count_occurs code n) (between code n)) 6 ≡ true) → count_occurs code count ≡ between code count
+    go (yes l) e = beq_true _ _ (at_below (λ n. beq (count_occurs code n) (between code n)) 6 count e.1 l)
+    go (no f) e = none_above code count e.0 (omega arith)
+
+-- a code beyond the table has neither
+past_table : (code count : ℕ) → 12 ≤ code → count_occurs code count ≡ between code count
+unfolding between count_occurs cadence cadences fewest most is_one_of
+past_table code count h = rw (get_or-eq_default cadences [] h, get_or-eq_default fewest 1 h, get_or-eq_default most 0 h) (none count)
+  where
+    none : (n : ℕ) → false ≡ leb 1 n && leb n 0
+    none zero = refl
+    none (suc n) = rw (lt-leb (suc n) 0 (omega arith)) (sym (and-false (leb 1 (suc n))))
+
+pub occurs_between : (code count : ℕ) → count_occurs code count ≡ between code count
+occurs_between code count = go (dec_lt code 12)
+  where
+    go : Dec (code < 12) → count_occurs code count ≡ between code count
+    go (yes l) = at_row code count l
+    go (no f) = past_table code count (omega arith)

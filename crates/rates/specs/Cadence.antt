@@ -43,6 +43,13 @@ place_after code place = cond (ltb (place + 1) (length (cadence code))) (place +
 
 -- ---- what holds of every row
 
+-- the fewest and the most of each row's counts, by the rate code: of no row every count is below the fewest or above the most
+unfoldable pub fewest : List ℕ
+fewest = 1 ∷ 1 ∷ 4 ∷ 5 ∷ 2 ∷ 4 ∷ 3 ∷ 4 ∷ 2 ∷ 2 ∷ 1 ∷ 2 ∷ []
+
+unfoldable pub most : List ℕ
+most = 0 ∷ 0 ∷ 5 ∷ 5 ∷ 3 ∷ 5 ∷ 4 ∷ 4 ∷ 3 ∷ 3 ∷ 2 ∷ 2 ∷ []
+
 -- a row of 40 places, with zeros after the cadence
 unfoldable pub held : List ℕ → List ℕ
 held l = l ++ replicate (40 - length l) 0

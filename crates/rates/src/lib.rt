@@ -3,7 +3,7 @@
 
 ghost use Rattle.std.specs.Prelude.{◌≡◌, length, get_or};
 ghost use Rattle.rates.specs.Rates.{rate_listed, interval_of, two_fields, pairs_with};
-ghost use Rattle.rates.specs.Cadence.{cadence, count_occurs, cycle_bytes, place_after};
+ghost use Rattle.rates.specs.Cadence.{cadence, count_occurs, cycle_bytes, place_after, fewest, most};
 ghost use Rattle.laws.specs.Sums.{sum};
 ghost use Rattle.rates.specs.Mixes.{mix_listed};
 
@@ -49,11 +49,33 @@ pub fn next_place(code: u8, place: u8) -> u8
     }
 }
 
+// The fewest and the most bytes that a frame of a rate's cadence has. Every count between them occurs too; a code that is not listed has none. Two numbers, where
+// `contains` over the row took a quarter more of a reading's instructions.
+#[tactic(auto, unfolding(crate::specs::Cadence::fewest, crate::specs::Cadence::most))]
+fn ends(code: u8) -> (u8, u8)
+    ensures { (result.0 ≡ get_or fewest code 1) × (result.1 ≡ get_or most code 0) }
+{
+    match code {
+        2 => (4, 5),
+        3 => (5, 5),
+        4 => (2, 3),
+        5 => (4, 5),
+        6 => (3, 4),
+        7 => (4, 4),
+        8 => (2, 3),
+        9 => (2, 3),
+        10 => (1, 2),
+        11 => (2, 2),
+        _ => (1, 0),
+    }
+}
+
 // Whether a container of this rate may carry fingerprints of so many bytes.
 pub fn count_occurs(code: u8, count: u8) -> bool
     ensures { result ≡ count_occurs code count }
 {
-    table13::cadence(code).contains(&count)
+    let (fewest, most) = ends(code);
+    fewest <= count && count <= most
 }
 
 // Whether a container of this rate may carry two video values.
@@ -83,5 +105,5 @@ pub fn pairs(format: u8, code: u8) -> bool
 pub fn mix_listed(mix: u8) -> bool
     ensures { result ≡ mix_listed mix }
 {
-    matches!(mix, 1 | 2 | 5)
+    mix == 1 || mix == 2 || mix == 5
 }

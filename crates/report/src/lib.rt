@@ -32,7 +32,7 @@ fn put_accepted(c: Contents, out: &mut [u8]) -> usize
 {
     let a = text::put_item(b"ok seq ", c.counter as u64, out, 0);
     let b = text::put_item(b" rate ", c.rate as u64, out, a);
-    let i = text::put_item(b" id ", u8::from(c.hasid) as u64, out, b);
+    let i = text::put_item(b" id ", laws::flag(c.hasid) as u64, out, b);
     let v = put_video(c.video, out, i);
     let s = text::put_item(b" audio ", c.count as u64, out, v);
     text::put(b"\n", out, s)

@@ -1,16 +1,15 @@
 -- An instant's samples, their weighted sum and its value.
-use Prim.Native.Nat.{ℕ, zero, suc, ◌+◌, ◌-◌, ◌*◌, ◌≤◌}
+use Prim.Native.Nat.{ℕ, zero, suc, ◌+◌, ◌*◌, ◌≤◌}
 use mathlib.Core.Path.{◌≡◌, refl, sym, ap, ap₂, ◌∙◌}
 use mathlib.Core.List.{List, [], ◌∷◌, ◌++◌, map}
 use native.Mathlib.Nat.{zero-div, mul-zero, add_assoc, add-zero, zero-add}
 use native.Mathlib.Omega.{arith}
 use lib.Dec.{eqb}
 use lib.IntN.{ℤ, pos, sub_ℕ, ◌+ℤ◌}
-use lib.ListN.{length, get_or, drop, replicate, length-drop, get_or-eq_default}
-use lib.Seq.{sets, get_or-drop}
+use lib.ListN.{length, get_or, drop, replicate, get_or-eq_default}
+use lib.Seq.{get_or-drop}
 use borrow.Author.Tests.{ne_eqb}
-use Rattle.laws.specs.Calls.{over}
-use Rattle.laws.proofs.Lists.{get_d_zeros, sets_over}
+use Rattle.laws.proofs.Lists.{get_d_zeros}
 use Rattle.laws.proofs.Tests.{chosen}
 use Rattle.sound.specs.Mix.{signed, signed_at, instant_samples, weights, divisor, weighted, quotient, mixed, pseudo_absolute, instant_bytes, instant_value}
 use Rattle.laws.proofs.Whole.{sub_add, sub_mul}
@@ -92,18 +91,15 @@ same_samples b c p q (suc n) e =
     let e0 : get_or b p 0 ≡ get_or c q 0 = simp add-zero at (e 0) in
     rw (e0, e 1, same_samples b c (p + 2) (q + 2) n (λ k. rw (add_assoc p 2 k, add_assoc q 2 k) (e (2 + k))))
 
--- an instant cut off by the block's end, copied out before zeros
-pub cut_value : (rule mix : ℕ) (block : List ℕ) (at : ℕ) → at ≤ length block → length block - at ≤ 10
-    → instant_value rule mix (sets (replicate 10 0) 0 (drop at block)) 0 ≡ instant_value rule mix block at
-unfolding instant_value mixed over
-cut_value rule mix block at h k =
-    let d : length (drop at block) ≤ length (replicate {A = ℕ} 10 0) = simp length-drop k in
-    rw (sets_over (drop at block) (replicate 10 0) d, same_samples (drop at block ++ drop (length (drop at block)) (replicate 10 0)) block 0 at (length (weights mix)) same)
+-- an instant cut off by the block's end, before zeros
+pub cut_value : (rule mix : ℕ) (block : List ℕ) (at n : ℕ) → instant_value rule mix (drop at block ++ drop n (replicate 10 0)) 0 ≡ instant_value rule mix block at
+unfolding instant_value mixed
+cut_value rule mix block at n = rw (same_samples (drop at block ++ drop n (replicate 10 0)) block 0 at (length (weights mix)) same)
   where
-    tail : (xs : List ℕ) (n i : ℕ) → get_or (xs ++ drop n (replicate 10 0)) i 0 ≡ get_or xs i 0
-    tail [] n i = get_or-drop n (replicate 10 0) i 0 ∙ get_d_zeros 10 (n + i)
-    tail (x ∷ xs) n zero = refl
-    tail (x ∷ xs) n (suc i) = tail xs n i
+    tail : (xs : List ℕ) (i : ℕ) → get_or (xs ++ drop n (replicate 10 0)) i 0 ≡ get_or xs i 0
+    tail [] i = get_or-drop n (replicate 10 0) i 0 ∙ get_d_zeros 10 (n + i)
+    tail (x ∷ xs) zero = refl
+    tail (x ∷ xs) (suc i) = tail xs i
 
-    same : (k : ℕ) → get_or (drop at block ++ drop (length (drop at block)) (replicate 10 0)) (0 + k) 0 ≡ get_or block (at + k) 0
-    same k = rw zero-add (tail (drop at block) (length (drop at block)) k ∙ get_or-drop at block k 0)
+    same : (k : ℕ) → get_or (drop at block ++ drop n (replicate 10 0)) (0 + k) 0 ≡ get_or block (at + k) 0
+    same k = rw zero-add (tail (drop at block) k ∙ get_or-drop at block k 0)

@@ -118,8 +118,9 @@ pub fn instant_value(rule: u8, mix: u8, block: &[u8], at: usize) -> u16
     if instant_bytes(mix) <= block.len() - at {
         return whole_value(rule, mix, block, at);
     }
-    let mut instant = [0u8; 10];
-    laws::copy_at(&block[at..], &mut instant, 0);
+    // Not by laws::copy_at: with its loop unrolled here, this function was too large to be inlined into the loop over a block, and stereo took twice the instructions.
+    let mut instant = [0; 10];
+    instant[..block.len() - at].copy_from_slice(&block[at..]);
     whole_value(rule, mix, &instant, 0)
 }
 

@@ -75,6 +75,6 @@ pub fn read_transport(bytes: &[u8], out: &mut [u8]) -> Result<usize, Refusal>
     if out.len() < size {
         return Err(Refusal::NoRoom);
     }
-    out[..size].copy_from_slice(&bytes[6..end]);
+    laws::copy_at(&bytes[6..end], out, 0);
     Ok(size)
 }

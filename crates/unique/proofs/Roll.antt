@@ -18,6 +18,7 @@ use Rattle.bench_video.proofs.bench_lines.Reads as bench_video_bench_lines
 use Rattle.container.proofs.blank_print.Reads as container_blank_print
 use Rattle.container.proofs.empty_contents.Reads as container_empty_contents
 use Rattle.container.proofs.read_container.Reads as container_read_container
+use Rattle.container.proofs.contents_or_empty.Reads as container_contents_or_empty
 use Rattle.container.proofs.check_container.Reads as container_check_container
 use Rattle.container.proofs.write_container.Reads as container_write_container
 use Rattle.feed.proofs.open.Reads as feed_open
@@ -53,7 +54,9 @@ use Rattle.judging.proofs.report.open.Reads as judging_report_open
 use Rattle.judging.proofs.report.field.Reads as judging_report_field
 use Rattle.judging.proofs.report.close.Reads as judging_report_close
 use Rattle.laws.proofs.Refusal.number.Reads as laws_Refusal_number
+use Rattle.laws.proofs.Done.of.Reads as laws_Done_of
 use Rattle.laws.proofs.copy_at.Reads as laws_copy_at
+use Rattle.laws.proofs.flag.Reads as laws_flag
 use Rattle.mending.proofs.mend.Reads as mending_mend
 use Rattle.mending.proofs.tool.report.Reads as mending_tool_report
 use Rattle.packet.proofs.write_packet.Reads as packet_write_packet
@@ -180,6 +183,9 @@ container_empty_contents_unique = container_theorems.empty_contents_unique
 pub container_read_container_unique : OneResult container_read_container.Post
 container_read_container_unique = container_theorems.read_container_unique
 
+pub container_contents_or_empty_unique : OneResult container_contents_or_empty.Post
+container_contents_or_empty_unique = container_theorems.contents_or_empty_unique
+
 pub container_check_container_unique : OneResult container_check_container.Post
 container_check_container_unique = container_theorems.check_container_unique
 
@@ -285,8 +291,14 @@ judging_report_close_unique = judging_theorems.close_unique
 pub laws_Refusal_number_unique : OneResult laws_Refusal_number.Post
 laws_Refusal_number_unique = laws_theorems.Refusal_number_unique
 
+pub laws_Done_of_unique : OneResult laws_Done_of.Post
+laws_Done_of_unique = laws_theorems.Done_of_unique
+
 pub laws_copy_at_unique : OneLeft laws_copy_at.Post (λ κs s. s.1.0.now)
 laws_copy_at_unique = laws_theorems.copy_at_unique
+
+pub laws_flag_unique : OneResult laws_flag.Post
+laws_flag_unique = laws_theorems.flag_unique
 
 pub mending_mend_unique : OneOutcome mending_mend.Post (λ κs s. s.1.0.now)
 mending_mend_unique = mending_theorems.mend_unique

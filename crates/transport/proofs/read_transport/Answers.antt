@@ -5,12 +5,13 @@ use mathlib.Core.List.{List}
 use native.Mathlib.Omega.{arith}
 use borrow.Author.Rules.{rules}
 use lib.ListN.{length, take, drop}
+use lib.Seq.{sets}
 use Rattle.std.proofs.Common.{Err}
-use Rattle.laws.specs.Calls.{over}
 use Rattle.laws.specs.Refusals.{number_of}
 use Rattle.laws.proofs.Calls.{told_refused, told_short, told_ok}
 use Rattle.laws.proofs.Refusals.{number_positive}
 use Rattle.laws.proofs.Layers.{own_first, own_passed}
+use Rattle.laws.proofs.Lists.{sets_over}
 use Rattle.container.specs.Reading.{reading}
 use Rattle.transport.specs.Reading.{frame_number, container_bytes, inner_number, read_number, read_done, read_out}
 use Rattle.transport.proofs.Passed.{passed, length_carried}
@@ -45,11 +46,11 @@ slice_bounds-check_container-start c = omega (arith, (passed _ (sym c.in_ok-chec
 pub overflow_sub-size : goal.overflow_sub-size
 overflow_sub-size c = omega (arith, (passed _ (sym c.in_ok-check_frame.ensures)).ten)
 
-pub slice_bounds-copy_from_slice-count : goal.slice_bounds-copy_from_slice-count
-slice_bounds-copy_from_slice-count c = omega (arith, (passed _ (sym c.in_ok-check_frame.ensures)).ten)
+pub slice_bounds-copy_at-count : goal.slice_bounds-copy_at-count
+slice_bounds-copy_at-count c = omega (arith, (passed _ (sym c.in_ok-check_frame.ensures)).ten)
 
-pub slice_bounds-copy_from_slice-start : goal.slice_bounds-copy_from_slice-start
-slice_bounds-copy_from_slice-start c = omega (arith, (passed _ (sym c.in_ok-check_frame.ensures)).ten)
+pub slice_bounds-copy_at-start : goal.slice_bounds-copy_at-start
+slice_bounds-copy_at-start c = omega (arith, (passed _ (sym c.in_ok-check_frame.ensures)).ten)
 
 pub returns-in_err-check_container : goal.returns-in_err-check_container
 unfolding read_done read_out read_number
@@ -66,11 +67,12 @@ returns-then-out-size c =
     told_short _ (container_bytes c.args.bytes.now) c.args.out.now (sym number) (omega (arith, length_carried c.args.bytes.now, c.if-out-size.true))
 
 pub returns : goal.returns
-unfolding read_done read_out read_number over
+unfolding read_done read_out read_number
 returns c =
     let bytes = c.args.bytes.now in
     let out = c.args.out.now in
     let number = number _ _ (sym c.in_ok-check_frame.ensures) c.in_ok-check_container.ensures in
     let n : length (container_bytes bytes) ≡ length bytes - 4 - 6 = length_carried bytes ∙ omega arith in
     let t = told_ok _ (container_bytes bytes) out (sym number) (omega (arith, n, c.if-out-size.false)) in
-    rw (← n) (t.0, rw (c.copy_from_slice.ensures.after, there bytes) t.1)
+    let copied = sets_over (container_bytes bytes) out (omega (arith, n, c.if-out-size.false)) in
+    rw (← n) (t.0, c.copy_at.ensures ∙ ap (sets out 0) (there bytes) ∙ copied ∙ t.1)

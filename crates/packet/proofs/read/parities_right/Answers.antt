@@ -1,19 +1,28 @@
 -- `packet::read::parities_right` meets its contract.
-use Prim.Native.Nat.{ℕ, ◌/◌}
-use mathlib.Core.Path.{refl, sym, ◌∙◌}
-use native.Mathlib.Omega.{arith}
+use mathlib.Core.Path.{◌≡◌, sym, ◌∙◌}
+use mathlib.Core.Bool.{true, false}
 use borrow.Author.Rules.{rules}
-use lib.ListN.{length, get_or}
-use Rattle.std.proofs.Common.{tests}
-use Rattle.std.proofs.lemmas.Iterator.{YieldsList-from_range}
-use Rattle.std.proofs.lemmas.Iterator.Search.{all_from_yields_List}
+use lib.ListN.{get_or}
 use Rattle.packet.specs.Words.{words_of}
 use Rattle.packet.specs.Reading.{parity_right}
-use Rattle.packet.proofs.TenBits.{length_words_of, every_place}
+use Rattle.packet.proofs.TenBits.{length_words_of, every_next, every_fails, every_end}
 use Rattle.packet.proofs.read.parities_right.Goals as goal
+
+pub returns-then-not-parity_right : goal.returns-then-not-parity_right
+returns-then-not-parity_right c =
+    let ws = words_of c.args.words.now in
+    let l = c.loop-i in
+    let f : parity_right (get_or ws l.i 0) ≡ false = rw (← c.word_at.ensures) (sym c.parity_right.ensures ∙ c.if-not-parity_right.true) in
+    sym (l.invariant ∙ every_fails parity_right ws l.i (rw length_words_of (search rules)) f)
+
+pub loop-i-preserved : goal.loop-i-preserved
+loop-i-preserved c =
+    let ws = words_of c.args.words.now in
+    let l = c.loop-i in
+    let f : parity_right (get_or ws l.i 0) ≡ true = rw (← c.word_at.ensures) (sym c.parity_right.ensures ∙ c.if-not-parity_right.false) in
+    l.invariant ∙ every_next parity_right ws l.i (rw length_words_of (search rules)) f
 
 pub returns : goal.returns
 returns c =
-    let ws = words_of c.args.words.now in
-    all_from_yields_List (λ (i : ℕ). parity_right (get_or ws i 0)) _ _ _ c.all.ensures.ran (YieldsList-from_range 0 _ (length c.args.words.now / 2) refl (omega arith)) (λ x b q k. search (rules, tests))
-    ∙ every_place parity_right ws _ (sym (length_words_of c.args.words.now))
+    let l = c.loop-i in
+    sym (l.invariant ∙ every_end parity_right (words_of c.args.words.now) l.i (rw length_words_of (search rules)))
