@@ -9,7 +9,8 @@ ghost use Rattle.judging.specs.Report.{Within, fresh_report, field_number, field
 use crate::{Faults, Known};
 use laws::Refusal;
 
-// The packets judged, how many there are, the number that refuses the file or 0, and how many bytes the lines so far have.
+// The packets judged, how many there are, the number that refuses the file or 0, and how many bytes the lines so far have. The number is public: callers read it
+// and may set it, which a `Result` in its place would narrow.
 #[derive(Clone, Copy)]
 pub struct Report {
     pub number: u8,

@@ -21,7 +21,7 @@ fn parity_right(w: u16) -> bool
     w == word_of((w % 256) as u8)
 }
 
-// Whether every word's bits 8 and 9 are right. A `for` is compiled to eight words a turn; `all`, as in `ten_bits`, took one, and three times the instructions.
+// Whether every word's bits 8 and 9 are right. By `for`, since by `all`, as in `ten_bits`, this took `judge` three times the instructions.
 fn parities_right(words: &[u8]) -> bool
     ensures { result ≡ every parity_right (words_of words.now) }
 {

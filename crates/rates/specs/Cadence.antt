@@ -43,7 +43,7 @@ place_after code place = cond (ltb (place + 1) (length (cadence code))) (place +
 
 -- ---- what holds of every row
 
--- the fewest and the most of each row's counts, by the rate code: of no row every count is below the fewest or above the most
+-- the fewest and the most of each row's counts, by the rate code; where there is no row, the most is below the fewest
 unfoldable pub fewest : List ℕ
 fewest = 1 ∷ 1 ∷ 4 ∷ 5 ∷ 2 ∷ 4 ∷ 3 ∷ 4 ∷ 2 ∷ 2 ∷ 1 ∷ 2 ∷ []
 

@@ -1,6 +1,6 @@
 -- `report::put_accepted` meets its contract: one item after the other.
 use Prim.Native.Nat.{◌≤◌}
-use mathlib.Core.Path.{◌≡◌, ap}
+use mathlib.Core.Path.{ap}
 use native.Mathlib.Omega.{arith}
 use lib.ListN.{length}
 use Rattle.text.specs.Lines.{last_place, Put, item}
